@@ -1,0 +1,13 @@
+-- `kosmydore_split_stream` meets its contract: it splits, and gives the stream.
+use borrow.Author.Needs.{needs}
+use Rattle.firmware.proofs.kosmydore_split_stream.Statement.{statement}
+use Rattle.firmware.proofs.kosmydore_split_stream.Tie as tie
+
+split-requires : tie.Need-split-requires
+split-requires c κs = search needs
+
+returns : tie.Need-returns
+returns c = rw (c .before .split .ensures)
+
+pub kosmydore-split-stream-spec : {M : Type 1} → statement M
+kosmydore-split-stream-spec = tie.close (tie.spec split-requires returns)

@@ -1,0 +1,2 @@
+-- The definitions that the promises of firmware cite, beside those of wire.
+pub mod Boundary

@@ -1,0 +1,246 @@
+-- `Node::hear` meets its contract: each return gives the outcome that the tests on its way lead to.
+use borrow.Author.Needs.{needs}
+use borrow.Author.Tests.{not-true, not-false}
+use native.Mathlib.Omega.{arith}
+use mathlib.Core.Path.{_≡_, refl, sym, _∙_}
+use mathlib.Core.Bool.{true, false}
+use mathlib.Core.List.{List, []}
+use Prim.Native.Nat.{ℕ, _≤_, _<_}
+use denote.Ref.{now}
+use lib.ListN.{length, getD}
+use Rattle.wire.specs.declared.ids.Parts.{Parts}
+use Rattle.wire.specs.declared.reply.Reply.the-variants.{Done}
+use Rattle.wire.specs.Identifiers.{streamOf, codeOf}
+use Rattle.wire.specs.Classes.{carries}
+use Rattle.wire.specs.Frames.{maxPayload, badFrame}
+use Rattle.node.specs.declared.slots.Slot.{Slot}
+use Rattle.node.specs.declared.Node.{Node}
+use Rattle.node.specs.Slots.{nonePending, isOf, isReceiver, indexOf}
+use Rattle.node.specs.Nodes.{delivered}
+use Rattle.node.specs.Hear.{hearRoom, deliveredAtOnce}
+use Rattle.node.specs.Calls.{Call}
+use Rattle.node.proofs.Finding.{length-of-mapped}
+use Rattle.node.proofs.Heard.{frame-splits, frame-is-short, short-output, bad-frame, no-slot, not-mine, misfit, clash, heard}
+use Rattle.node.proofs.Unbounded.{promised-both}
+use Rattle.node.proofs.Node.hear.Statement.{statement}
+use Rattle.node.proofs.Node.hear.Tie as tie
+
+-- ── the call ──
+module _ (s : tie.Start) where
+  abbrev node : Node
+  node = s .args .t1
+
+  abbrev payload : List ℕ
+  payload = now (s .args .payload)
+
+  abbrev output : List ℕ
+  output = now (s .args .out)
+
+  abbrev call : Call
+  call = Call.hear (s .args .id) (s .args .dlc) payload output
+
+  -- the table has 32 slots
+  long : length (node .slots) ≡ 32
+  long = search (needs, length-of-mapped)
+
+returns : tie.Need-returns
+returns c =
+    let s = c .before .before .before in
+    promised-both (call s) (node s) delivered (output s) (short-output _ _ _ _ _ (c .if1 .taken)) refl refl
+
+bad-frame-requires : tie.Need-bad-frame-requires
+bad-frame-requires c κs = search needs
+
+returns-2 : tie.Need-returns-2
+returns-2 c =
+    let b = c .before in
+    let s = b .before .before .before .before in
+    let bad = sym (b .bad-frame .ensures) ∙ c .if2 .taken in
+    promised-both (call s) (node s) delivered (output s) (bad-frame _ _ _ _ _ (b .before .if1 .left) bad) refl refl
+
+-- ── a frame ──
+-- the call, seen from past the second test; `start-3` and `start-4` from further on
+abbrev start-2 : tie.Else2 → tie.Start
+start-2 c = c .before .before .before .before .before
+
+module _ (c : tie.Else2) where
+  room : hearRoom ≤ length (output (start-2 c))
+  room = c .before .before .if1 .left
+
+  good : badFrame (start-2 c .args .id) (start-2 c .args .dlc) (length (payload (start-2 c))) ≡ false
+  good = sym (c .before .bad-frame .ensures) ∙ c .if2 .left
+
+  small : length (payload (start-2 c)) ≤ maxPayload
+  small = frame-is-short (start-2 c .args .id) (start-2 c .args .dlc) (length (payload (start-2 c))) good
+
+split-requires : tie.Need-split-requires
+split-requires c κs = search needs
+
+abbrev parts : tie.Start → Parts
+parts s = record { reply = Done; stream = streamOf (s .args .id); code = codeOf (s .args .id) }
+
+splits : (c : tie.After-split) → c .split .result ≡ parts (start-2 (c .before))
+splits c =
+    let s = start-2 (c .before) in
+    c .split .ensures ∙ frame-splits (s .args .id) (s .args .dlc) (length (payload s)) (good (c .before))
+
+find-requires : tie.Need-find-requires
+find-requires c κs = search needs
+
+abbrev start-3 : tie.After-find → tie.Start
+start-3 c = start-2 (c .before .before .before)
+
+found : (c : tie.After-find) → c .find .result ≡ indexOf (isOf (streamOf (start-3 c .args .id))) (node (start-3 c) .slots)
+found c = rw (splits (c .before .before)) at (c .find .ensures)
+
+returns-3 : tie.Need-returns-3
+returns-3 c =
+    let f = c .before in
+    let b = f .before .before .before in
+    let s = start-3 f in
+    let none : length (node s .slots) ≤ f .find .result = omega (arith, long s) in
+    promised-both (call s) (node s) delivered (output s) (no-slot _ _ _ _ _ (room b) (good b) _ (found f) none) refl refl
+
+-- ── the slot of its stream ──
+-- what the code would read outside the table
+abbrev outside : Slot
+outside =
+    record {
+      stream = record { 0 = 0 };
+      settings = record { rd = 0; dc = 0; ra = 0; dd = 0; role = 0; class = 0 };
+      message = record { stamp = 0; len = 0; held = false; confirmed = false; bytes = [] };
+      pending = nonePending;
+      used = false;
+    }
+
+module _ (c : tie.Else3) where
+  abbrev start-4 : tie.Start
+  start-4 = start-3 (c .before)
+
+  abbrev slot : Slot
+  slot = getD (node start-4 .slots) (c .before .find .result) outside
+
+  inside : c .before .find .result < length (node start-4 .slots)
+  inside = omega (arith, long start-4)
+
+mul-slot : tie.Need-mul-slot
+mul-slot c = search needs
+
+element-copy-out-slot : tie.Need-element-copy-out-slot
+element-copy-out-slot c = search needs
+
+is-receiver-requires : tie.Need-is-receiver-requires
+is-receiver-requires c κs = search needs
+
+returns-4 : tie.Need-returns-4
+returns-4 c =
+    let r = c .before in
+    let o = r .before .before in
+    let b = o .before .before .before .before in
+    let s = start-4 o in
+    let sends = sym (r .is-receiver .ensures) ∙ not-true _ (c .if4 .taken) in
+    promised-both (call s) (node s) delivered (output s) (not-mine _ _ _ _ _ (room b) (good b) _ (found (o .before)) outside (inside o) sends) refl refl
+
+-- where the slot was found, seen from past the fourth test; `place-5` from past the fifth
+abbrev place-4 : tie.Else4 → tie.Else3
+place-4 c = c .before .before .before
+
+mine : (c : tie.Else4) → isReceiver (slot (place-4 c)) ≡ true
+mine c = sym (c .before .is-receiver .ensures) ∙ not-false _ (c .if4 .left)
+
+carries-requires : tie.Need-carries-requires
+carries-requires c κs = search needs
+
+returns-5 : tie.Need-returns-5
+returns-5 c =
+    let k = c .before in
+    let o = place-4 (k .before) in
+    let b = o .before .before .before .before in
+    let s = start-4 o in
+    let other = sym (rw (splits (o .before .before .before)) at (k .carries .ensures)) ∙ not-true _ (c .if5 .taken) in
+    promised-both (call s) (node s) delivered (output s)
+    (misfit _ _ _ _ _ (room b) (good b) _ (found (o .before)) outside (inside o) (mine (k .before)) other)
+    refl refl
+
+abbrev place-5 : tie.Else5 → tie.Else3
+place-5 c = place-4 (c .before .before)
+
+fits : (c : tie.Else5) → carries (slot (place-5 c) .settings .class) (codeOf (start-4 (place-5 c) .args .id)) ≡ true
+fits c = sym (rw (splits (place-5 c .before .before .before)) at (c .before .carries .ensures)) ∙ not-false _ (c .if5 .left)
+
+clashes-requires : tie.Need-clashes-requires
+clashes-requires c κs = search needs
+
+returns-6 : tie.Need-returns-6
+returns-6 c =
+    let l = c .before in
+    let k = l .before .before in
+    let o = place-5 (l .before) in
+    let b = o .before .before .before .before in
+    let s = start-4 o in
+    let other = sym (rw (splits (o .before .before .before)) at (l .clashes .ensures)) ∙ c .if6 .taken in
+    promised-both (call s) (node s) delivered (output s)
+    (clash _ _ _ _ _ (room b) (good b) _ (found (o .before)) outside (inside o) (mine (k .before)) (fits (l .before)) other)
+    refl refl
+
+-- ── it hears ──
+hear-requires : tie.Need-hear-requires
+hear-requires c κs = small (place-5 (c .before .before) .before .before .before .before)
+
+mul-heard : tie.Need-mul-heard
+mul-heard c = search needs
+
+element-set-from-heard : tie.Need-element-set-from-heard
+element-set-from-heard c = search needs
+
+deliver-plain-requires : tie.Need-deliver-plain-requires
+deliver-plain-requires c κs =
+    let b = place-5 (c .before .before .before .before) .before .before .before .before in
+    (small b, room b)
+
+same-length : tie.Need-same-length
+same-length c = search needs
+
+returns-7 : tie.Need-returns-7
+unfolding deliveredAtOnce
+returns-7 c =
+    let w = c .before .before in
+    let h = w .before .before in
+    let l = h .before .before in
+    let k = l .before .before in
+    let o = place-5 (l .before) in
+    let b = o .before .before .before .before in
+    let s = start-4 o in
+    let p = splits (o .before .before .before) in
+    let same = sym (rw p at (l .clashes .ensures)) ∙ h .before .if6 .left in
+    let changed = rw p at (h .hear .ensures) in
+    let written = rw p at (w .deliver-plain .ensures) in
+    promised-both (call s) (node s) delivered (output s)
+    (heard _ _ _ _ _ (room b) (good b) _ (found (o .before)) outside (inside o) (mine (k .before)) (fits (l .before)) same changed)
+    (rw (written .0))
+    (written .1)
+
+pub hear-spec : {M : Type 1} → statement M
+hear-spec =
+    tie.close
+    (tie.spec
+    returns
+    bad-frame-requires
+    returns-2
+    split-requires
+    find-requires
+    returns-3
+    mul-slot
+    element-copy-out-slot
+    is-receiver-requires
+    returns-4
+    carries-requires
+    returns-5
+    clashes-requires
+    returns-6
+    hear-requires
+    mul-heard
+    element-set-from-heard
+    deliver-plain-requires
+    same-length
+    returns-7)

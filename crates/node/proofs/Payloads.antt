@@ -1,0 +1,107 @@
+-- Payloads: comparing two byte by byte, and padding one with zeros.
+use mathlib.Core.Path.{_≡_, refl, sym, ap, _∙_}
+use mathlib.Core.Bool.{Bool, true, false, _&&_}
+use mathlib.Core.List.{List, [], _∷_, _++_, append-nil}
+use Prim.Native.Nat.{ℕ, suc, _+_, _≤_, _<_, min}
+use native.Mathlib.Nat.{zero-add}
+use native.Mathlib.Numerals.{add-one}
+use native.Mathlib.Omega.{arith}
+use lib.ListN.{length, getD, take, drop, set, replicate, length-append, length-drop, length-take, take-append-drop, drop-of-length-le}
+use lib.Seq.{drop-cons, paste-suc, take-append-seam, take-length, take-all, take-append-le, getD-take, length-take-le}
+use lib.Dec.{eqb, leb}
+use borrow.Author.Tests.{eq-eqb, ne-eqb, leb-true, leb-false}
+use Rattle.wire.specs.Frames.{maxPayload}
+use Rattle.wire.specs.Delivered.{over}
+use Rattle.node.specs.declared.slots.Message.{Message}
+use Rattle.node.specs.Slots.{padded, payloadOf, sameBytes, same}
+
+-- ── comparing ──
+pub differ-in-length : (a b : List ℕ) → (length a ≡ length b → ⊥) → sameBytes a b ≡ false
+unfolding sameBytes
+differ-in-length [] [] h = absurd (h refl)
+differ-in-length [] (y ∷ b) h = refl
+differ-in-length (x ∷ a) [] h = refl
+differ-in-length (x ∷ a) (y ∷ b) h = go (eqb x y) (differ-in-length a b (λ e. h (ap suc e)))
+  where
+    go : (t : Bool) → sameBytes a b ≡ false → (t && sameBytes a b) ≡ false
+    go true e = e
+    go false e = refl
+
+-- the loop at i: what was compared before i was the same
+abbrev pub Compared : (n : ℕ) (bytes payload : List ℕ) (i : ℕ) → Type 0
+Compared n bytes payload i = sameBytes (take n bytes) payload ≡ sameBytes (drop i (take n bytes)) (drop i payload)
+
+module _ (n : ℕ) (bytes payload : List ℕ) (enough : n ≤ length bytes) (as-long : length payload ≡ n) where
+  module _ (i : ℕ) (here : i < n) where
+    compared-at : sameBytes (drop i (take n bytes)) (drop i payload)
+        ≡ (eqb (getD bytes i 0) (getD payload i 0) && sameBytes (drop (i + 1) (take n bytes)) (drop (i + 1) payload))
+    unfolding sameBytes
+    compared-at =
+        let long = length-take-le n bytes enough in
+        rw (add-one, drop-cons (take n bytes) i 0 (omega arith), drop-cons payload i 0 (omega arith), getD-take n bytes i 0 here)
+
+    pub same-so-far : Compared n bytes payload i → getD bytes i 0 ≡ getD payload i 0 → Compared n bytes payload (i + 1)
+    same-so-far inv e = inv ∙ compared-at ∙ rw (eq-eqb _ _ e)
+
+    pub another-byte : Compared n bytes payload i → (getD bytes i 0 ≡ getD payload i 0 → ⊥) → sameBytes (take n bytes) payload ≡ false
+    another-byte inv e = inv ∙ compared-at ∙ rw (ne-eqb _ _ e)
+
+  pub same-to-the-end : (i : ℕ) → n ≤ i → Compared n bytes payload i → sameBytes (take n bytes) payload ≡ true
+  unfolding sameBytes
+  same-to-the-end i past inv =
+      let long = length-take-le n bytes enough in
+      let a : length (take n bytes) ≤ i = omega arith in
+      let b : length payload ≤ i = omega arith in
+      inv ∙ rw (drop-of-length-le (take n bytes) a, drop-of-length-le payload b)
+
+pub message-of-another-length : (m : Message) (payload : List ℕ) → (length payload ≡ m .len → ⊥) → same m payload ≡ false
+message-of-another-length m payload h = let t = ne-eqb (m .len) (length payload) (λ e. h (sym e)) in rw t
+
+pub message-of-equal-length : (m : Message) (payload : List ℕ) → length payload ≡ m .len → same m payload ≡ sameBytes (payloadOf m) payload
+message-of-equal-length m payload h = let t = eq-eqb (m .len) (length payload) (sym h) in rw t
+
+-- ── copying ──
+-- the first i of some bytes, over the front of an output
+abbrev pub copied : (output bytes : List ℕ) → ℕ → List ℕ
+copied output bytes i = take i bytes ++ drop i output
+
+pub copy-next : (output bytes : List ℕ) (i : ℕ) → i < length bytes → i < length output
+    → set (copied output bytes i) i (getD bytes i 0) ≡ copied output bytes (i + 1)
+copy-next output bytes i here room = rw add-one (simp zero-add at (paste-suc output 0 bytes i 0 (omega arith) here))
+
+-- ── padding ──
+-- the first i bytes of a payload, and zeros up to eight
+abbrev pub filled : List ℕ → ℕ → List ℕ
+filled payload i = copied (replicate maxPayload 0) payload i
+
+-- a payload of at most eight bytes is padded whole
+pub padded-length : (payload : List ℕ) → length payload ≤ maxPayload → length (padded payload) ≡ maxPayload
+padded-length payload h = simp (length-append, length-drop) (omega arith)
+
+pub padded-whole : (payload : List ℕ) → length payload ≤ maxPayload → take maxPayload (padded payload) ≡ padded payload
+padded-whole payload h = take-all maxPayload (padded payload) (omega (arith, padded-length payload h))
+
+pub filled-whole : (payload : List ℕ) (n : ℕ) → n ≡ min (length payload) maxPayload
+    → filled payload n ≡ take maxPayload (padded payload)
+filled-whole payload n e = go (leb (length payload) maxPayload) refl
+  where
+    go : (t : Bool) → leb (length payload) maxPayload ≡ t → filled payload n ≡ take maxPayload (padded payload)
+    go true small =
+        let h = leb-true (length payload) maxPayload small in
+        let whole : n ≡ length payload = omega arith in
+        rw (padded-whole payload h, whole, take-length payload)
+    go false large =
+        let h : maxPayload ≤ length payload = omega (arith, leb-false (length payload) maxPayload large) in
+        let cut : n ≡ maxPayload = omega arith in
+        rw (take-append-le maxPayload payload (drop (length payload) (replicate maxPayload 0)) h, cut, append-nil)
+
+-- ── the payload of a message, which has eight bytes ──
+pub payload-length : (m : Message) → length (m .bytes) ≡ maxPayload → length (payloadOf m) ≡ min (m .len) maxPayload
+payload-length m eight = rw (length-take (m .len) (m .bytes), eight)
+
+take-as-many : (n : ℕ) (bytes : List ℕ) → take (length (take n bytes)) bytes ≡ take n bytes
+take-as-many n bytes =
+    ap (take (length (take n bytes))) (sym (take-append-drop n bytes)) ∙ take-append-seam (take n bytes) (drop n bytes)
+
+pub copied-payload : (m : Message) (output : List ℕ) (n : ℕ) → n ≡ length (payloadOf m) → copied output (m .bytes) n ≡ over (payloadOf m) output
+copied-payload m output n e = rw (e, take-as-many (m .len) (m .bytes))

@@ -1,0 +1,84 @@
+-- The three tests of a tick. Each fails of what is too young. A sender's hold may be over; a receiver's message is late, if
+-- it is unconfirmed in 2M, or else due.
+use mathlib.Core.Path.{_≡_, refl}
+use mathlib.Core.Bool.{Bool, true, false, not, _&&_, _||_, and-true, and-false, or-false, and-assoc, false≢true}
+use Prim.Native.Nat.{ℕ, _+_, _<_, _≤_}
+use borrow.Author.Tests.{lt-ltb, le-ltb, ne-eqb, eqb-true}
+use Rattle.wire.specs.Settings.{isImd, isTwoMessage}
+use Rattle.node.specs.declared.slots.Slot.{Slot}
+use Rattle.node.specs.Slots.{isReceiver, isSender}
+use Rattle.node.specs.Tick.{late, due, holdOver, lapsed}
+use Rattle.node.specs.Selection.{stirs, keyOf}
+use Rattle.node.proofs.Choices.{neither}
+
+both-sides : (two confirmed : Bool) → two && not confirmed ≡ true → (two ≡ true) × (confirmed ≡ false)
+both-sides true false e = (refl, refl)
+both-sides true true e = absurd (false≢true e)
+both-sides false confirmed e = absurd (false≢true e)
+
+module _ (age : ℕ) (x : Slot) where
+  pub young-is-not-late : age ≤ x .settings .dc → false ≡ late age x
+  unfolding late
+  young-is-not-late h = rw (le-ltb (x .settings .dc) age h) (simp and-false)
+
+  pub old-is-late : x .settings .dc < age → isReceiver x && x .message .held && isTwoMessage (x .settings) && not (x .message .confirmed) ≡ late age x
+  unfolding late
+  old-is-late h = rw (lt-ltb (x .settings .dc) age h) (simp and-true)
+
+  pub young-is-not-due : age ≤ x .settings .dd → false ≡ due age x
+  unfolding due
+  young-is-not-due h = rw (le-ltb (x .settings .dd) age h) (simp and-false)
+
+  pub old-is-due : x .settings .dd < age
+      → isReceiver x && x .message .held && (isImd (x .settings) || isTwoMessage (x .settings) && x .message .confirmed) ≡ due age x
+  unfolding due
+  old-is-due h = rw (lt-ltb (x .settings .dd) age h) (simp and-true)
+
+  pub young-is-held-on : age ≤ x .settings .rd + x .settings .dd → false ≡ holdOver age x
+  unfolding holdOver
+  young-is-held-on h = rw (le-ltb (x .settings .rd + x .settings .dd) age h) (simp and-false)
+
+  pub old-is-over : x .settings .rd + x .settings .dd < age → isSender x && x .message .held ≡ holdOver age x
+  unfolding holdOver
+  old-is-over h = rw (lt-ltb (x .settings .rd + x .settings .dd) age h) (simp and-true)
+
+  pub stirs-sender : x .settings .role ≡ 1 → holdOver age x ≡ stirs age x
+  unfolding late due holdOver stirs
+  stirs-sender e = rw e (simp and-false)
+
+  -- unconfirmed in 2M
+  abbrev waits : Bool
+  waits = isTwoMessage (x .settings) && not (x .message .confirmed)
+
+  pub stirs-waiting : (x .settings .role ≡ 1 → ⊥) → waits ≡ true → late age x ≡ stirs age x
+  unfolding late due holdOver stirs
+  stirs-waiting r t =
+      let w = both-sides (isTwoMessage (x .settings)) (x .message .confirmed) t in
+      let two = eqb-true (x .settings .class) 2 (w .0) in
+      rw (ne-eqb (x .settings .role) 1 r, two, w .1) (simp (and-false, or-false))
+
+  pub stirs-ready : (x .settings .role ≡ 1 → ⊥) → waits ≡ false → due age x ≡ stirs age x
+  unfolding late due holdOver stirs
+  stirs-ready r t =
+      rw (ne-eqb (x .settings .role) 1 r, and-assoc (isReceiver x && x .message .held) (isTwoMessage (x .settings)) (not (x .message .confirmed)), t)
+      (simp (and-false, or-false))
+
+  pub unheld-is-still : x .message .held ≡ false → stirs age x ≡ false
+  unfolding late due holdOver stirs
+  unheld-is-still h = rw h (simp and-false)
+
+  module _ (e : stirs age x ≡ false) where
+    pub still-is-not-due : due age x ≡ false
+    unfolding stirs
+    still-is-not-due = neither (late age x) (due age x) (neither (late age x || due age x) (holdOver age x) e .0) .1
+
+    pub still-stays : lapsed age x ≡ x
+    unfolding stirs lapsed
+    still-stays =
+        let n = neither (late age x || due age x) (holdOver age x) e in
+        let m = neither (late age x) (due age x) (n .0) in
+        rw (m .0, m .1, n .1)
+
+    pub still-has-no-key : keyOf age x ≡ 0
+    unfolding keyOf
+    still-has-no-key = rw still-is-not-due

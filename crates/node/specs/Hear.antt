@@ -1,0 +1,61 @@
+-- Hearing a frame: the replies ShortOutput, BadFrame, NotMine, Misfit, Clash, in this order.
+use Prim.Native.Nat.{ℕ}
+use mathlib.Core.Bool.{Bool, cond, not, _&&_}
+use mathlib.Core.List.{List, []}
+use lib.ListN.{length}
+use lib.Dec.{eqb, ltb}
+use Rattle.wire.specs.declared.ids.BusId.{BusId}
+use Rattle.wire.specs.declared.reply.Reply.the-variants.{BadFrame, NotMine, Misfit, Clash, ShortOutput}
+use Rattle.wire.specs.Identifiers.{streamOf, codeOf}
+use Rattle.wire.specs.Classes.{carries}
+use Rattle.wire.specs.Frames.{badFrame}
+use Rattle.wire.specs.Delivered.{recordOf}
+use Rattle.node.specs.declared.slots.Slot.{Slot}
+use Rattle.node.specs.declared.Node.{Node}
+use Rattle.node.specs.Slots.{nothing, holding, restamped, confirmed, same, abortPending, isReceiver, withParts, withMessage}
+use Rattle.node.specs.Nodes.{slotOf, onSlot, Outcome, refused, done}
+
+-- a plain frame is delivered at once, so the longest record must fit
+abbrev pub hearRoom : ℕ
+hearRoom = 16
+
+-- data with another length or other bytes than the message held
+abbrev pub clashes : (code : ℕ) → (payload : List ℕ) → Slot → Bool
+clashes code payload x = eqb code 0 && x .message .held && not (same (x .message) payload)
+
+-- data: held, if nothing is; else it is a duplicate, and the stamp becomes the counter
+abbrev pub dataHeard : (now : ℕ) → (payload : List ℕ) → Slot → Slot
+dataHeard now payload x = withMessage (cond (x .message .held) (restamped now (x .message)) (holding now payload)) x
+
+-- a confirmation: what is held is confirmed; where nothing is, an abort becomes pending
+abbrev pub confirmationHeard : Slot → Slot
+confirmationHeard x =
+    cond (x .message .held) (withMessage (confirmed (x .message)) x) (withParts x (x .message) (abortPending (x .pending)))
+
+-- an abort: what is held is dropped, confirmed or not; an abort of one's own stays pending
+abbrev pub abortHeard : Slot → Slot
+abortHeard x = cond (x .message .held) (withMessage nothing x) x
+
+unfoldable pub heardBy : (now code : ℕ) → (payload : List ℕ) → Slot → Slot
+heardBy now code payload x =
+    cond (eqb code 0) (dataHeard now payload x)
+    (cond (eqb code 1) (confirmationHeard x)
+    (cond (eqb code 2) (abortHeard x) x))
+
+-- a plain frame's record; the other codes deliver nothing yet
+unfoldable pub deliveredAtOnce : BusId → (payload : List ℕ) → List ℕ
+deliveredAtOnce id payload = cond (eqb (codeOf id) 3) (recordOf (streamOf id) payload) []
+
+-- a frame, at the slot of its stream
+unfoldable pub hearAt : Slot → BusId → (payload : List ℕ) → Node → Outcome
+hearAt x id payload n =
+    cond (not (isReceiver x)) (refused n NotMine)
+    (cond (not (carries (x .settings .class) (codeOf id))) (refused n Misfit)
+    (cond (clashes (codeOf id) payload x) (refused n Clash)
+    (done (onSlot (streamOf id) (heardBy (n .counter) (codeOf id) payload) n) (deliveredAtOnce id payload))))
+
+unfoldable pub hear : BusId → (dlc : ℕ) → (payload output : List ℕ) → Node → Outcome
+hear id dlc payload output n =
+    cond (ltb (length output) hearRoom) (refused n ShortOutput)
+    (cond (badFrame id dlc (length payload)) (refused n BadFrame)
+    (hearAt (slotOf (streamOf id) n) id payload n))

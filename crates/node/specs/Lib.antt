@@ -1,0 +1,12 @@
+pub mod Slots
+pub mod Nodes
+pub mod SetUp
+pub mod Hear
+pub mod Clock
+pub mod Tick
+pub mod Request
+pub mod NextFrame
+pub mod Calls
+pub mod Reachable
+pub mod Listing
+pub mod Selection

@@ -1,0 +1,78 @@
+-- The next frame: of all pending frames the one with the lowest bus identifier. The replies ShortOutput, Nothing, in this order.
+use Prim.Native.Nat.{ℕ, _+_, _*_, min}
+use mathlib.Core.Bool.{Bool, true, false, cond, _&&_, _||_}
+use mathlib.Core.List.{List, [], _∷_, _++_}
+use lib.ListN.{length}
+use lib.Dec.{eqb, leb, ltb}
+use Rattle.wire.specs.declared.ids.BusId.{BusId}
+use Rattle.wire.specs.declared.reply.Reply.the-variants.{Done, ShortOutput, Nothing}
+use Rattle.wire.specs.Identifiers.{maxStream, maxBusId, streamOf, codeOf}
+use Rattle.wire.specs.Settings.{isPlain}
+use Rattle.node.specs.declared.slots.Pending.{Pending}
+use Rattle.node.specs.declared.slots.Slot.{Slot}
+use Rattle.node.specs.declared.Node.{Node}
+use Rattle.node.specs.Slots.{payloadOf, withParts}
+use Rattle.node.specs.Nodes.{slotOf, onSlot, Outcome, refused}
+
+-- the longest payload must fit
+abbrev pub nextRoom : ℕ
+nextRoom = 8
+
+-- the code of the frame with the payload
+abbrev pub payloadCode : Slot → ℕ
+payloadCode x = cond (isPlain (x .settings)) 3 0
+
+abbrev pub one : Bool → ℕ → List ℕ
+one true i = i ∷ []
+one false i = []
+
+-- the codes of a slot's pending frames
+abbrev pub pendingCodes : Slot → List ℕ
+pendingCodes x = one (x .pending .payload) (payloadCode x) ++ one (x .pending .confirmation) 1 ++ one (x .pending .abort) 2
+
+-- as bus identifiers of the slot's stream (a number that is no stream has none)
+abbrev pub idsFrom : (stream : ℕ) → (codes : List ℕ) → List ℕ
+idsFrom stream [] = []
+idsFrom stream (code ∷ codes) = (stream * 4 + code) ∷ idsFrom stream codes
+
+unfoldable pub pendingIn : Slot → List ℕ
+pendingIn x = cond (x .used && leb (x .stream .0) maxStream) (idsFrom (x .stream .0) (pendingCodes x)) []
+
+-- all pending frames, by their bus identifiers
+unfoldable pub pendingIds : List Slot → List ℕ
+pendingIds [] = []
+pendingIds (x ∷ xs) = pendingIn x ++ pendingIds xs
+
+-- the lowest of some identifiers; one above the highest, where there are none
+unfoldable pub lowest : List ℕ → ℕ
+lowest [] = maxBusId + 1
+lowest (i ∷ is) = min i (lowest is)
+
+-- the frame with this code is pending no longer
+abbrev pub without : (code : ℕ) → Pending → Pending
+without code p =
+    cond (eqb code 1) (record { payload = p .payload; confirmation = false; abort = p .abort })
+    (cond (eqb code 2) (record { payload = p .payload; confirmation = p .confirmation; abort = false })
+    (record { payload = false; confirmation = p .confirmation; abort = p .abort }))
+
+unfoldable pub givenOut : (code : ℕ) → Slot → Slot
+givenOut code x = withParts x (x .message) (without code (x .pending))
+
+-- confirmations and aborts have no payload
+unfoldable pub payloadFor : (code : ℕ) → Slot → List ℕ
+payloadFor code x = cond (eqb code 1 || eqb code 2) [] (payloadOf (x .message))
+
+unfoldable pub give : BusId → Node → Outcome
+give id n =
+    record {
+      node = onSlot (streamOf id) (givenOut (codeOf id)) n;
+      reply = Done;
+      id = id;
+      bytes = payloadFor (codeOf id) (slotOf (streamOf id) n);
+    }
+
+unfoldable pub nextFrame : (output : List ℕ) → Node → Outcome
+nextFrame output n =
+    cond (ltb (length output) nextRoom) (refused n ShortOutput)
+    (cond (ltb maxBusId (lowest (pendingIds (n .slots)))) (refused n Nothing)
+    (give (record { 0 = lowest (pendingIds (n .slots)) }) n))

@@ -1,0 +1,62 @@
+-- The node, and the outcome of a call on it.
+use Prim.Native.Nat.{ℕ}
+use mathlib.Core.Bool.{Bool}
+use mathlib.Core.List.{List, []}
+use lib.ListN.{length, replicate}
+use Rattle.wire.specs.declared.ids.Stream.{Stream}
+use Rattle.wire.specs.declared.ids.BusId.{BusId}
+use Rattle.wire.specs.declared.reply.Reply.{Reply}
+use Rattle.wire.specs.declared.reply.Reply.the-variants.{Done}
+use Rattle.node.specs.declared.slots.Slot.{Slot}
+use Rattle.node.specs.declared.Node.{Node}
+use Rattle.node.specs.declared.Answered.{Answered}
+use Rattle.node.specs.declared.Delivered.{Delivered}
+use Rattle.node.specs.declared.Given.{Given}
+use Rattle.node.specs.Slots.{empty, isOf, first, onFirst, some}
+
+abbrev pub slotCount : ℕ
+slotCount = 32
+
+-- before any call
+abbrev pub fresh : Node
+fresh = record { slots = replicate slotCount empty; counter = 0 }
+
+abbrev pub slotOf : Stream → Node → Slot
+slotOf s n = first (isOf s) (n .slots)
+
+abbrev pub hasSlot : Stream → Node → Bool
+hasSlot s n = some (isOf s) (n .slots)
+
+abbrev pub withSlots : List Slot → Node → Node
+withSlots slots n = record { slots = slots; counter = n .counter }
+
+abbrev pub onSlot : Stream → (Slot → Slot) → Node → Node
+onSlot s change n = withSlots (onFirst (isOf s) change (n .slots)) n
+
+-- What a call leaves in the node, its reply, the identifier that next frame gives out, and the bytes that the call
+-- writes to the front of the lent output; the rest of the output stays as it was.
+pub record Outcome : Type 0 where
+  pub node : Node
+  pub reply : Reply
+  pub id : BusId
+  pub bytes : List ℕ
+
+abbrev pub noId : BusId
+noId = record { 0 = 0 }
+
+-- a refusal changes nothing, writes nothing, and returns 0
+abbrev pub refused : Node → Reply → Outcome
+refused n reply = record { node = n; reply = reply; id = noId; bytes = [] }
+
+abbrev pub done : Node → (written : List ℕ) → Outcome
+done n written = record { node = n; reply = Done; id = noId; bytes = written }
+
+-- the outcome as each call answers it
+abbrev pub answered : Outcome → Answered
+answered o = record { node = o .node; reply = o .reply }
+
+abbrev pub delivered : Outcome → Delivered
+delivered o = record { node = o .node; reply = o .reply; written = length (o .bytes) }
+
+abbrev pub given : Outcome → Given
+given o = record { node = o .node; reply = o .reply; id = o .id; len = length (o .bytes) }

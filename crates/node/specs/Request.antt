@@ -1,0 +1,35 @@
+-- A request to send: the replies BadLength, NotSender, Busy, in this order.
+use Prim.Native.Nat.{ℕ}
+use mathlib.Core.Bool.{Bool, true, false, cond, not, _||_}
+use mathlib.Core.List.{List, []}
+use lib.ListN.{length}
+use lib.Dec.{ltb}
+use Rattle.wire.specs.declared.ids.Stream.{Stream}
+use Rattle.wire.specs.declared.reply.Reply.the-variants.{BadLength, NotSender, Busy}
+use Rattle.wire.specs.Settings.{isPlain, isTwoMessage}
+use Rattle.wire.specs.Frames.{maxPayload}
+use Rattle.node.specs.declared.slots.Pending.{Pending}
+use Rattle.node.specs.declared.slots.Slot.{Slot}
+use Rattle.node.specs.declared.Node.{Node}
+use Rattle.node.specs.Slots.{holding, keeping, isSender, withParts}
+use Rattle.node.specs.Nodes.{slotOf, onSlot, Outcome, refused, done}
+
+abbrev pub hasPending : Pending → Bool
+hasPending p = p .payload || p .confirmation || p .abort
+
+abbrev pub busy : Slot → Bool
+busy x = x .message .held || hasPending (x .pending)
+
+-- data (in plain, the plain frame) becomes pending, in 2M the confirmation too; in IMD and 2M a hold starts
+unfoldable pub requested : (now : ℕ) → (payload : List ℕ) → Slot → Slot
+requested now payload x =
+    withParts x
+    (cond (isPlain (x .settings)) (keeping payload) (holding now payload))
+    (record { payload = true; confirmation = isTwoMessage (x .settings); abort = false })
+
+unfoldable pub request : Stream → (payload : List ℕ) → Node → Outcome
+request s payload n =
+    cond (ltb maxPayload (length payload)) (refused n BadLength)
+    (cond (not (isSender (slotOf s n))) (refused n NotSender)
+    (cond (busy (slotOf s n)) (refused n Busy)
+    (done (onSlot s (requested (n .counter) payload) n) [])))

@@ -1,0 +1,26 @@
+-- How the tick's code takes the due slots by ascending stream: each slot has a key, and the least key from a number on is
+-- looked for again and again. Only contracts of private functions cite this.
+use Prim.Native.Nat.{ℕ, suc, _+_}
+use mathlib.Core.Bool.{Bool, cond, _&&_, _||_}
+use mathlib.Core.List.{List, [], _∷_}
+use lib.ListN.{getD}
+use lib.Dec.{eqb, leb}
+use Rattle.node.specs.declared.slots.Slot.{Slot}
+use Rattle.node.specs.Tick.{late, due, holdOver}
+
+-- the tick changes the slot
+unfoldable pub stirs : (age : ℕ) → Slot → Bool
+stirs age x = late age x || due age x || holdOver age x
+
+-- one above the stream of a slot that is due; 0, where it is not
+unfoldable pub keyOf : (age : ℕ) → Slot → ℕ
+keyOf age x = cond (due age x) (x .stream .0 + 1) 0
+
+-- a key that counts, before the best of those after it, which is 0 where none of them counts
+abbrev pub before : (from key best : ℕ) → Bool
+before from key best = leb from key && (eqb best 0 || leb key best)
+
+-- the place of the least key that is `from` or above, the first of them; where there is none, the list's length
+unfoldable pub leastAt : (from : ℕ) → List ℕ → ℕ
+leastAt from [] = 0
+leastAt from (k ∷ ks) = cond (before from k (getD ks (leastAt from ks) 0)) 0 (suc (leastAt from ks))

@@ -1,0 +1,109 @@
+-- A slot: its parts, what changes them, and finding one in the table.
+use Prim.Native.Nat.{ℕ, suc}
+use mathlib.Core.Bool.{Bool, true, false, cond, not, _&&_, _||_}
+use mathlib.Core.List.{List, [], _∷_, _++_}
+use lib.ListN.{length, take, drop, replicate}
+use lib.Dec.{eqb}
+use Rattle.wire.specs.declared.ids.Stream.{Stream}
+use Rattle.wire.specs.declared.settings.Settings.{Settings}
+use Rattle.wire.specs.Settings.{receives, sends}
+use Rattle.wire.specs.Frames.{maxPayload}
+use Rattle.node.specs.declared.slots.Message.{Message}
+use Rattle.node.specs.declared.slots.Pending.{Pending}
+use Rattle.node.specs.declared.slots.Slot.{Slot}
+
+-- ── the message ──
+-- a payload with zeros after it, eight bytes in all
+abbrev pub padded : List ℕ → List ℕ
+padded payload = payload ++ drop (length payload) (replicate maxPayload 0)
+
+abbrev pub nothing : Message
+nothing = record { stamp = 0; len = 0; held = false; confirmed = false; bytes = replicate maxPayload 0 }
+
+-- taken up at this moment, unconfirmed
+abbrev pub holding : (now : ℕ) → (payload : List ℕ) → Message
+holding now payload = record { stamp = now; len = length payload; held = true; confirmed = false; bytes = padded payload }
+
+-- not held, and kept for the frame that is pending
+abbrev pub keeping : (payload : List ℕ) → Message
+keeping payload = record { stamp = 0; len = length payload; held = false; confirmed = false; bytes = padded payload }
+
+abbrev pub restamped : (now : ℕ) → Message → Message
+restamped now m = record { stamp = now; len = m .len; held = m .held; confirmed = m .confirmed; bytes = m .bytes }
+
+abbrev pub confirmed : Message → Message
+confirmed m = record { stamp = m .stamp; len = m .len; held = m .held; confirmed = true; bytes = m .bytes }
+
+-- held no longer; a pending frame may still need its bytes
+abbrev pub released : Message → Message
+released m = record { stamp = 0; len = m .len; held = false; confirmed = false; bytes = m .bytes }
+
+abbrev pub payloadOf : Message → List ℕ
+payloadOf m = take (m .len) (m .bytes)
+
+-- the same bytes, and as many
+unfoldable pub sameBytes : List ℕ → List ℕ → Bool
+sameBytes [] [] = true
+sameBytes [] (y ∷ ys) = false
+sameBytes (x ∷ xs) [] = false
+sameBytes (x ∷ xs) (y ∷ ys) = eqb x y && sameBytes xs ys
+
+-- a payload has the message's length and bytes
+abbrev pub same : Message → (payload : List ℕ) → Bool
+same m payload = eqb (m .len) (length payload) && sameBytes (payloadOf m) payload
+
+-- ── the slot ──
+abbrev pub nonePending : Pending
+nonePending = record { payload = false; confirmation = false; abort = false }
+
+abbrev pub abortPending : Pending → Pending
+abortPending p = record { payload = p .payload; confirmation = p .confirmation; abort = true }
+
+-- no stream is set up here
+abbrev pub empty : Slot
+empty =
+    record {
+      stream = record { 0 = 0 };
+      settings = record { rd = 0; dc = 0; ra = 0; dd = 0; role = 0; class = 0 };
+      message = nothing;
+      pending = nonePending;
+      used = false;
+    }
+
+abbrev pub isFree : Slot → Bool
+isFree x = not (x .used)
+
+abbrev pub isOf : Stream → Slot → Bool
+isOf s x = x .used && eqb (x .stream .0) (s .0)
+
+abbrev pub isReceiver : Slot → Bool
+isReceiver x = x .used && receives (x .settings)
+
+abbrev pub isSender : Slot → Bool
+isSender x = x .used && sends (x .settings)
+
+abbrev pub withParts : Slot → Message → Pending → Slot
+withParts x m p = record { stream = x .stream; settings = x .settings; message = m; pending = p; used = x .used }
+
+abbrev pub withMessage : Message → Slot → Slot
+withMessage m x = withParts x m (x .pending)
+
+-- ── the table ──
+-- the first slot of which the test is true; where there is none, the empty slot
+unfoldable pub first : (Slot → Bool) → List Slot → Slot
+first test [] = empty
+first test (x ∷ xs) = cond (test x) x (first test xs)
+
+-- the same slots, but the first of which the test is true is changed
+unfoldable pub onFirst : (Slot → Bool) → (Slot → Slot) → List Slot → List Slot
+onFirst test change [] = []
+onFirst test change (x ∷ xs) = cond (test x) (change x ∷ xs) (x ∷ onFirst test change xs)
+
+unfoldable pub some : (Slot → Bool) → List Slot → Bool
+some test [] = false
+some test (x ∷ xs) = test x || some test xs
+
+-- where the first slot stands of which the test is true; where there is none, the table's length
+unfoldable pub indexOf : (Slot → Bool) → List Slot → ℕ
+indexOf test [] = 0
+indexOf test (x ∷ xs) = cond (test x) 0 (suc (indexOf test xs))

@@ -1,0 +1,77 @@
+-- A tick: the counter moves, then the slots are taken by ascending stream. Its one refusal is ShortOutput.
+use Prim.Native.Nat.{ℕ, _+_}
+use mathlib.Core.Bool.{Bool, cond, not, _&&_, _||_}
+use mathlib.Core.List.{List, [], _∷_, _++_, map}
+use lib.ListN.{length}
+use lib.Dec.{eqb, ltb}
+use Rattle.wire.specs.declared.reply.Reply.the-variants.{ShortOutput}
+use Rattle.wire.specs.Settings.{isImd, isTwoMessage}
+use Rattle.wire.specs.Delivered.{recordOf}
+use Rattle.node.specs.declared.slots.Slot.{Slot}
+use Rattle.node.specs.declared.Node.{Node}
+use Rattle.node.specs.Slots.{nothing, released, payloadOf, abortPending, isReceiver, isSender, withParts, withMessage}
+use Rattle.node.specs.Nodes.{Outcome, refused, done}
+use Rattle.node.specs.Clock.{Clock}
+
+-- every slot may deliver, each a record of at most 16 bytes
+abbrev pub tickRoom : ℕ
+tickRoom = 512
+
+-- held by a receiver, unconfirmed in 2M, and older than the confirm delay
+unfoldable pub late : (age : ℕ) → Slot → Bool
+late age x =
+    isReceiver x && x .message .held && isTwoMessage (x .settings) && not (x .message .confirmed) && ltb (x .settings .dc) age
+
+-- held by a receiver, confirmed in 2M or IMD, and older than the deliver delay
+unfoldable pub due : (age : ℕ) → Slot → Bool
+due age x =
+    isReceiver x && x .message .held && (isImd (x .settings) || isTwoMessage (x .settings) && x .message .confirmed)
+    && ltb (x .settings .dd) age
+
+-- held by a sender, and older than data reach and deliver delay
+unfoldable pub holdOver : (age : ℕ) → Slot → Bool
+holdOver age x = isSender x && x .message .held && ltb (x .settings .rd + x .settings .dd) age
+
+-- dropped with an abort pending; delivered; the hold ends
+unfoldable pub lapsed : (age : ℕ) → Slot → Slot
+lapsed age x =
+    cond (late age x) (withParts x nothing (abortPending (x .pending)))
+    (cond (due age x) (withMessage nothing x)
+    (cond (holdOver age x) (withMessage (released (x .message)) x) x))
+
+-- x in its place in a list that ascends by stream; a stream has one place
+abbrev pub place : Slot → List Slot → List Slot
+place x [] = x ∷ []
+place x (y ∷ ys) =
+    cond (ltb (y .stream .0) (x .stream .0)) (y ∷ place x ys)
+    (cond (eqb (x .stream .0) (y .stream .0)) (x ∷ ys) (x ∷ y ∷ ys))
+
+module _ (clock : Clock) (now : ℕ) where
+  abbrev pub ageOf : Slot → ℕ
+  ageOf x = clock .age now (x .message .stamp)
+
+  abbrev pub tickSlot : Slot → Slot
+  tickSlot x = lapsed (ageOf x) x
+
+  -- the slots that are due now, by ascending stream
+  unfoldable pub dueSlots : List Slot → List Slot
+  dueSlots [] = []
+  dueSlots (x ∷ xs) = cond (due (ageOf x) x) (place x (dueSlots xs)) (dueSlots xs)
+
+-- the record of a slot's message
+abbrev pub recordFrom : Slot → List ℕ
+recordFrom x = recordOf (x .stream) (payloadOf (x .message))
+
+-- one after the other
+unfoldable pub recordsFrom : List Slot → List ℕ
+recordsFrom [] = []
+recordsFrom (x ∷ xs) = recordFrom x ++ recordsFrom xs
+
+abbrev pub ticked : Clock → Node → Node
+ticked clock n =
+    record { slots = map (tickSlot clock (clock .next (n .counter))) (n .slots); counter = clock .next (n .counter) }
+
+unfoldable pub tick : Clock → (output : List ℕ) → Node → Outcome
+tick clock output n =
+    cond (ltb (length output) tickRoom) (refused n ShortOutput)
+    (done (ticked clock n) (recordsFrom (dueSlots clock (clock .next (n .counter)) (n .slots))))

@@ -1,0 +1,151 @@
+// The next frame to hand to the controller.
+use crate::Given;
+use crate::Node;
+use crate::slots::Message;
+use crate::slots::Slot;
+use wire::ids::BusId;
+use wire::ids::Stream;
+use wire::reply::Reply;
+use wire::settings::Settings;
+ghost use mathlib.Core.Path.{_≡_};
+ghost use mathlib.Core.List.{List};
+ghost use Prim.Native.Nat.{_≤_, min};
+ghost use lib.ListN.{length};
+ghost use Rattle.wire.specs.Frames.{maxPayload};
+ghost use Rattle.wire.specs.Delivered.{over};
+ghost use Rattle.node.specs.Slots.{payloadOf};
+ghost use Rattle.node.specs.Nodes.{given};
+ghost use Rattle.node.specs.NextFrame.{pendingIn, pendingIds, lowest, givenOut, payloadFor, nextFrame};
+ghost use Rattle.node.specs.Clock.{rolled, unbounded};
+ghost use Rattle.node.specs.Calls.{Call, after, rollOutcome};
+
+// Above every identifier: the lowest, where no frame is pending.
+const NONE: u32 = BusId::MAX + 1;
+
+impl Slot {
+    // The lowest bus identifier of the slot's pending frames.
+    pub fn lowest_pending(self) -> u32
+        ensures { λ r. ⌜ r ≡ lowest (pendingIn self) ⌝ }
+    {
+        let stream = self.stream.0;
+        if stream > Stream::MAX {
+            return NONE;
+        }
+        if !self.used {
+            return NONE;
+        }
+        let plain = self.settings.class == Settings::PLAIN;
+        if self.pending.payload & !plain {
+            return stream * 4;
+        }
+        if self.pending.confirmation {
+            return stream * 4 + 1;
+        }
+        if self.pending.abort {
+            return stream * 4 + 2;
+        }
+        if self.pending.payload {
+            return stream * 4 + 3;
+        }
+        NONE
+    }
+
+    // The slot once its frame with this code is given out.
+    pub fn given_out(mut self, code: u32) -> Slot
+        ensures { λ r. ⌜ r ≡ givenOut code self ⌝ }
+    {
+        if code == 1 {
+            self.pending.confirmation = false;
+            return self;
+        }
+        if code == 2 {
+            self.pending.abort = false;
+            return self;
+        }
+        self.pending.payload = false;
+        self
+    }
+}
+
+// Writes the payload of the slot's frame with this code to the front of `out`; answers its length.
+fn give_payload(out: &mut [u8], s: Slot, code: u32) -> usize
+    requires { ⌜ maxPayload ≤ length (now out) ⌝ }
+    ensures { λ r. ⌜ (r ≡ length (payloadFor code s)) × (now (out .exit) ≡ over (payloadFor code s) (now (out .entry))) ⌝ }
+{
+    if (code == 1) | (code == 2) {
+        return 0;
+    }
+    put_payload(out, s.message)
+}
+
+fn put_payload(out: &mut [u8], m: Message) -> usize
+    requires { ⌜ maxPayload ≤ length (now out) ⌝ }
+    ensures { λ r. ⌜ (r ≡ length (payloadOf m)) × (now (out .exit) ≡ over (payloadOf m) (now (out .entry))) ⌝ }
+{
+    let n = m.payload_length();
+    let bytes = m.bytes;
+    let mut i: usize = 0;
+    while i < n {
+        out[i] = bytes[i];
+        i += 1;
+    }
+    n
+}
+
+fn lower(a: u32, b: u32) -> u32
+    ensures { λ r. ⌜ r ≡ min a b ⌝ }
+{
+    if a <= b { a } else { b }
+}
+
+impl Node {
+    // The lowest bus identifier of all pending frames.
+    pub fn lowest_pending(self) -> u32
+        ensures { λ r. ⌜ r ≡ lowest (pendingIds (self .slots)) ⌝ }
+    {
+        let mut id: u32 = NONE;
+        let mut i: usize = 32;
+        while i > 0 {
+            i -= 1;
+            let s = self.slots[i];
+            id = lower(s.lowest_pending(), id);
+        }
+        id
+    }
+
+    // Gives out the pending frame with the lowest bus identifier; it is pending no longer.
+    pub fn next_frame(mut self, out: &mut [u8]) -> Given
+        ensures exact { λ r. ⌜ (r ≡ given (nextFrame (now (out .entry)) self)) × (now (out .exit) ≡ over (nextFrame (now (out .entry)) self .bytes) (now (out .entry))) ⌝ }
+        ensures unbounded { λ r. ⌜ ((h : List Call) → self ≡ after rolled h → (r ≡ given (rollOutcome (nextFrame (now (out .entry)) (after unbounded h)))) × (now (out .exit) ≡ over (nextFrame (now (out .entry)) (after unbounded h) .bytes) (now (out .entry)))) ⌝ }
+    {
+        if out.len() < 8 {
+            return Given {
+                node: self,
+                reply: Reply::ShortOutput,
+                id: BusId(0),
+                len: 0,
+            };
+        }
+        let n = self.lowest_pending();
+        if n > BusId::MAX {
+            return Given {
+                node: self,
+                reply: Reply::Nothing,
+                id: BusId(0),
+                len: 0,
+            };
+        }
+        let code = n % 4;
+        let i = self.find(Stream(n / 4));
+        let s = self.slots[i];
+        let len = give_payload(out, s, code);
+        let t = s.given_out(code);
+        self.slots[i] = t;
+        Given {
+            node: self,
+            reply: Reply::Done,
+            id: BusId(n),
+            len: len,
+        }
+    }
+}

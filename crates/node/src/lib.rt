@@ -1,0 +1,88 @@
+// The node: one module's protocol state, and the five calls on it. Each call takes the whole node
+// and gives the whole node back, with a numbered reply.
+use crate::slots::Slot;
+use wire::ids::BusId;
+use wire::ids::Stream;
+use wire::reply::Reply;
+ghost use mathlib.Core.Path.{_≡_};
+ghost use Rattle.node.specs.Slots.{indexOf, isFree, isOf};
+ghost use Rattle.node.specs.Nodes.{fresh};
+
+pub mod giving;
+pub mod hearing;
+pub mod requesting;
+pub mod setting;
+pub mod slots;
+pub mod ticking;
+
+pub struct Node {
+    pub slots: [Slot; 32],
+    pub counter: u16,
+}
+
+impl Node {
+    // Before any call: no stream is set up, and the counter is 0.
+    pub const FRESH: Node = Node {
+        slots: [Slot::EMPTY; 32],
+        counter: 0,
+    };
+
+    pub fn fresh() -> Node
+        ensures { λ r. ⌜ r ≡ fresh ⌝ }
+    {
+        Node::FRESH
+    }
+
+    // Where the stream's slot stands; 32 where it has none.
+    pub fn find(self, stream: Stream) -> usize
+        ensures { λ r. ⌜ r ≡ indexOf (isOf stream) (self .slots) ⌝ }
+    {
+        let mut at: usize = 32;
+        let mut i: usize = 32;
+        while i > 0 {
+            i -= 1;
+            let s = self.slots[i];
+            if s.is_of(stream) {
+                at = i;
+            }
+        }
+        at
+    }
+
+    // Where the first free slot stands; 32 where there is none.
+    pub fn find_free(self) -> usize
+        ensures { λ r. ⌜ r ≡ indexOf isFree (self .slots) ⌝ }
+    {
+        let mut at: usize = 32;
+        let mut i: usize = 32;
+        while i > 0 {
+            i -= 1;
+            let s = self.slots[i];
+            if s.is_free() {
+                at = i;
+            }
+        }
+        at
+    }
+}
+
+// What set up and request answer.
+pub struct Answered {
+    pub node: Node,
+    pub reply: Reply,
+}
+
+// What hear and tick answer: how many bytes of the output were written.
+pub struct Delivered {
+    pub node: Node,
+    pub reply: Reply,
+    pub written: usize,
+}
+
+// What next frame answers: the frame's identifier, and the length of its payload.
+pub struct Given {
+    pub node: Node,
+    pub reply: Reply,
+    pub id: BusId,
+    pub len: usize,
+}

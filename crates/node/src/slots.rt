@@ -1,0 +1,146 @@
+// A slot: a stream with its settings, the message it holds, and its pending frames.
+use wire::ids::Stream;
+use wire::settings::Settings;
+ghost use mathlib.Core.Path.{_≡_};
+ghost use Prim.Native.Nat.{min};
+ghost use lib.ListN.{length, take};
+ghost use Rattle.wire.specs.Frames.{maxPayload};
+ghost use Rattle.node.specs.Slots.{empty, padded, payloadOf, same, isFree, isOf, isReceiver, isSender};
+
+pub struct Message {
+    // The counter when the message was taken up.
+    pub stamp: u16,
+    pub len: u8,
+    pub held: bool,
+    pub confirmed: bool,
+    pub bytes: [u8; 8],
+}
+
+impl Message {
+    pub const NOTHING: Message = Message {
+        stamp: 0,
+        len: 0,
+        held: false,
+        confirmed: false,
+        bytes: [0; 8],
+    };
+
+    // The length of the payload, which has at most eight bytes.
+    pub fn payload_length(self) -> usize
+        ensures { λ r. ⌜ r ≡ length (payloadOf self) ⌝ }
+    {
+        at_most_eight(self.len as usize)
+    }
+
+    // Whether a payload has the message's length and bytes.
+    pub fn same(self, payload: &[u8]) -> bool
+        ensures { λ r. ⌜ r ≡ same self (now (payload .entry)) ⌝ }
+    {
+        let len = self.len as usize;
+        if payload.len() != len {
+            return false;
+        }
+        if len > 8 {
+            return false;
+        }
+        let bytes = self.bytes;
+        let mut i: usize = 0;
+        while i < len {
+            if bytes[i] != payload[i] {
+                return false;
+            }
+            i += 1;
+        }
+        true
+    }
+}
+
+// The first eight bytes of a payload, with zeros after it where it is shorter.
+pub fn pad(payload: &[u8]) -> [u8; 8]
+    ensures { λ r. ⌜ r ≡ take maxPayload (padded (now (payload .entry))) ⌝ }
+{
+    let n = at_most_eight(payload.len());
+    let mut bytes: [u8; 8] = [0; 8];
+    let mut i: usize = 0;
+    while i < n {
+        bytes[i] = payload[i];
+        i += 1;
+    }
+    bytes
+}
+
+fn at_most_eight(n: usize) -> usize
+    ensures { λ r. ⌜ r ≡ min n maxPayload ⌝ }
+{
+    if n <= 8 { n } else { 8 }
+}
+
+pub struct Pending {
+    // The frame with the payload: data, or the plain frame.
+    pub payload: bool,
+    pub confirmation: bool,
+    pub abort: bool,
+}
+
+impl Pending {
+    pub const NONE: Pending = Pending {
+        payload: false,
+        confirmation: false,
+        abort: false,
+    };
+}
+
+pub struct Slot {
+    pub stream: Stream,
+    pub settings: Settings,
+    pub message: Message,
+    pub pending: Pending,
+    pub used: bool,
+}
+
+impl Slot {
+    pub const EMPTY: Slot = Slot {
+        stream: Stream(0),
+        settings: Settings {
+            rd: 0,
+            dc: 0,
+            ra: 0,
+            dd: 0,
+            role: 0,
+            class: 0,
+        },
+        message: Message::NOTHING,
+        pending: Pending::NONE,
+        used: false,
+    };
+
+    pub fn empty() -> Slot
+        ensures { λ r. ⌜ r ≡ empty ⌝ }
+    {
+        Slot::EMPTY
+    }
+
+    pub fn is_free(self) -> bool
+        ensures { λ r. ⌜ r ≡ isFree self ⌝ }
+    {
+        !self.used
+    }
+
+    pub fn is_of(self, stream: Stream) -> bool
+        ensures { λ r. ⌜ r ≡ isOf stream self ⌝ }
+    {
+        self.used & (self.stream.0 == stream.0)
+    }
+
+    pub fn is_receiver(self) -> bool
+        ensures { λ r. ⌜ r ≡ isReceiver self ⌝ }
+    {
+        self.used & (self.settings.role == Settings::RECEIVE)
+    }
+
+    pub fn is_sender(self) -> bool
+        ensures { λ r. ⌜ r ≡ isSender self ⌝ }
+    {
+        self.used & (self.settings.role == Settings::SEND)
+    }
+}

@@ -1,0 +1,245 @@
+// A tick: the counter moves, what is due is delivered by ascending stream, and what is late dropped.
+use crate::Delivered;
+use crate::Node;
+use crate::slots::Message;
+use crate::slots::Slot;
+use wire::delivered::write_record;
+use wire::reply::Reply;
+use wire::settings::Settings;
+ghost use mathlib.Core.Path.{_≡_};
+ghost use mathlib.Core.List.{List};
+ghost use Prim.Native.Nat.{_+_, _<_};
+ghost use lib.ListN.{length};
+ghost use Rattle.wire.specs.Frames.{maxPayload};
+ghost use Rattle.wire.specs.Delivered.{over};
+ghost use Rattle.node.specs.Nodes.{delivered};
+ghost use Rattle.node.specs.Tick.{late, due, holdOver, lapsed, tick};
+ghost use Rattle.node.specs.Selection.{stirs, keyOf, leastAt};
+ghost use Rattle.node.specs.Clock.{rolled, unbounded};
+ghost use Rattle.node.specs.Calls.{Call, after, rollOutcome};
+
+fn wide16(x: u16) -> u32
+    ensures { λ r. ⌜ r ≡ x ⌝ }
+{
+    x as u32
+}
+
+fn wide32(x: u32) -> u64
+    ensures { λ r. ⌜ (r ≡ x) × (r < 4294967296) ⌝ }
+{
+    x as u64
+}
+
+// The counter after a tick.
+fn next(now: u16) -> u16
+    ensures { λ r. ⌜ r ≡ rolled .next now ⌝ }
+{
+    std::num::wrapping_add_u16(now, 1)
+}
+
+// The age of a stamp, also where the counter has rolled over since.
+fn age(now: u16, stamp: u16) -> u16
+    ensures { λ r. ⌜ r ≡ rolled .age now stamp ⌝ }
+{
+    std::num::wrapping_sub_u16(now, stamp)
+}
+
+impl Message {
+    // The payload and the zeros after it, eight bytes in all.
+    fn all_bytes(self) -> [u8; 8]
+        ensures { λ r. ⌜ (r ≡ self .bytes) × (length r ≡ maxPayload) ⌝ }
+    {
+        self.bytes
+    }
+}
+
+impl Slot {
+    // Held by a receiver, unconfirmed in 2M, and older than the confirm delay.
+    fn late(self, age: u16) -> bool
+        ensures { λ r. ⌜ r ≡ late age self ⌝ }
+    {
+        let s = self.settings;
+        let m = self.message;
+        if age > s.dc {
+            return self.used
+                & (s.role == Settings::RECEIVE)
+                & m.held
+                & (s.class == Settings::TWO_MESSAGE)
+                & !m.confirmed;
+        }
+        false
+    }
+
+    // Held by a receiver, confirmed in 2M or IMD, and older than the deliver delay.
+    fn due(self, age: u16) -> bool
+        ensures { λ r. ⌜ r ≡ due age self ⌝ }
+    {
+        let s = self.settings;
+        let m = self.message;
+        if age > s.dd {
+            return self.used
+                & (s.role == Settings::RECEIVE)
+                & m.held
+                & ((s.class == Settings::IMD) | (s.class == Settings::TWO_MESSAGE) & m.confirmed);
+        }
+        false
+    }
+
+    // Held by a sender, and older than data reach and deliver delay.
+    fn hold_over(self, age: u16) -> bool
+        ensures { λ r. ⌜ r ≡ holdOver age self ⌝ }
+    {
+        let s = self.settings;
+        let m = self.message;
+        if wide16(age) > wide16(s.rd) + wide16(s.dd) {
+            return self.used & (s.role == Settings::SEND) & m.held;
+        }
+        false
+    }
+
+    // Whether a tick changes the slot: of the three tests above only one can hold.
+    fn stirs(self, age: u16) -> bool
+        ensures { λ r. ⌜ r ≡ stirs age self ⌝ }
+    {
+        let s = self.settings;
+        let m = self.message;
+        if s.role == Settings::SEND {
+            return self.hold_over(age);
+        }
+        if (s.class == Settings::TWO_MESSAGE) & !m.confirmed {
+            return self.late(age);
+        }
+        self.due(age)
+    }
+
+    // One above the stream, if the slot is due; else 0.
+    fn key(self, age: u16) -> u64
+        ensures { λ r. ⌜ r ≡ keyOf age self ⌝ }
+    {
+        if self.due(age) {
+            return wide32(self.stream.0) + 1;
+        }
+        0
+    }
+
+    // The slot after the tick.
+    fn lapsed(mut self, age: u16) -> Slot
+        ensures { λ r. ⌜ r ≡ lapsed age self ⌝ }
+    {
+        if self.late(age) {
+            let after_drop = Message::NOTHING;
+            let mut p = self.pending;
+            p.abort = true;
+            self.message = after_drop;
+            self.pending = p;
+            return self;
+        }
+        if self.due(age) {
+            let after_delivery = Message::NOTHING;
+            self.message = after_delivery;
+            return self;
+        }
+        if self.hold_over(age) {
+            let mut m = self.message;
+            m.stamp = 0;
+            m.held = false;
+            m.confirmed = false;
+            self.message = m;
+            return self;
+        }
+        self
+    }
+}
+
+// The place of the least key that is `from` or above, the first of them; 32, where there is none.
+fn least(keys: &[u64; 32], from: u64) -> usize
+    requires { ⌜ length (now keys) ≡ 32 ⌝ }
+    ensures { λ r. ⌜ r ≡ leastAt from (now (keys .entry)) ⌝ }
+{
+    let mut place: usize = 32;
+    let mut best: u64 = 0;
+    let mut i: usize = 32;
+    while i > 0 {
+        i -= 1;
+        let key = keys[i];
+        if (from <= key) & ((best == 0) | (key <= best)) {
+            place = i;
+            best = key;
+        }
+    }
+    place
+}
+
+impl Node {
+    // A tick writes at most a record of 16 bytes for each slot.
+    pub const TICK_ROOM: usize = 512;
+
+    // Moves the counter by one; what is due is delivered, and what is late dropped.
+    pub fn tick(mut self, out: &mut [u8]) -> Delivered
+        ensures exact { λ r. ⌜ (r ≡ delivered (tick rolled (now (out .entry)) self)) × (now (out .exit) ≡ over (tick rolled (now (out .entry)) self .bytes) (now (out .entry))) ⌝ }
+        ensures unbounded { λ r. ⌜ ((h : List Call) → self ≡ after rolled h → (r ≡ delivered (rollOutcome (tick unbounded (now (out .entry)) (after unbounded h)))) × (now (out .exit) ≡ over (tick unbounded (now (out .entry)) (after unbounded h) .bytes) (now (out .entry)))) ⌝ }
+    {
+        if out.len() < Node::TICK_ROOM {
+            return Delivered {
+                node: self,
+                reply: Reply::ShortOutput,
+                written: 0,
+            };
+        }
+        let now = next(self.counter);
+        self.counter = now;
+        // Most ticks change no slot, so the slots are only read at first.
+        let mut keys = [0u64; 32];
+        let mut stirring = false;
+        let mut i: usize = 32;
+        while i > 0 {
+            i -= 1;
+            let slot = self.slots[i];
+            let message = slot.message;
+            if message.held {
+                let a = age(now, message.stamp);
+                if slot.stirs(a) {
+                    keys[i] = slot.key(a);
+                    stirring = true;
+                }
+            }
+        }
+        if !stirring {
+            return Delivered {
+                node: self,
+                reply: Reply::Done,
+                written: 0,
+            };
+        }
+        // The records of the due slots, each after the one before.
+        let mut at: usize = 0;
+        let mut from: u64 = 1;
+        let mut place = least(&keys, from);
+        while place < 32 {
+            let slot = self.slots[place];
+            let message = slot.message;
+            let bytes = message.all_bytes();
+            at += write_record(&mut out[at..], slot.stream, bytes, message.len);
+            from = wide32(slot.stream.0) + 2;
+            place = least(&keys, from);
+        }
+        // The slots after the tick.
+        let mut j: usize = 32;
+        while j > 0 {
+            j -= 1;
+            let slot = self.slots[j];
+            let message = slot.message;
+            if message.held {
+                let a = age(now, message.stamp);
+                if slot.stirs(a) {
+                    self.slots[j] = slot.lapsed(a);
+                }
+            }
+        }
+        Delivered {
+            node: self,
+            reply: Reply::Done,
+            written: at,
+        }
+    }
+}

@@ -1,0 +1,8 @@
+-- What is shown of the definitions of wire.
+pub mod Classes
+pub mod Frames
+pub mod Identifiers
+pub mod LegalSettings
+pub mod Records
+pub mod Replies
+pub mod Unique

@@ -1,0 +1,71 @@
+-- The delivered record's length and the worked record; what writing leaves in an output, and how the writer comes to it.
+use mathlib.Core.Path.{_≡_, refl, ap}
+use mathlib.Core.List.{List, [], _∷_, _++_}
+use Prim.Native.Nat.{ℕ, zero, suc, _+_, _/_, _%_, _≤_, _<_, min}
+use native.Mathlib.Nat.{zero-min, min-zero, suc-min-suc}
+use native.Mathlib.Omega.{arith}
+use borrow.Author.Tests.{le-leb, lt-leb}
+use lib.ListN.{length, take, drop, length-append, length-take, length-drop}
+use lib.Seq.{sets, sets-eq, paste, length-take-le, drop-drop, drop-append-add}
+use Rattle.wire.specs.declared.ids.Stream.{Stream}
+use Rattle.wire.specs.declared.reply.Reply.the-variants.{Done}
+use Rattle.wire.specs.Frames.{maxPayload}
+use Rattle.wire.specs.Delivered.{recordOf, over, fitting, recordLength}
+
+-- a record is eight bytes longer than its payload
+pub record-length : (s : Stream) (payload : List ℕ) → length (recordOf s payload) ≡ 8 + length payload
+unfolding recordOf
+record-length s payload = omega arith
+
+pub record-length-agrees : (s : Stream) (payload : List ℕ) → length payload ≤ maxPayload
+    → recordLength (length payload) ≡ record { reply = Done; length = length (recordOf s payload) }
+unfolding recordLength
+record-length-agrees s payload small = rw (le-leb _ _ small, record-length s payload)
+
+-- the rules paper's example: stream 5 with payload 0A 0B
+pub stream-5-record : recordOf (record { 0 = 5 }) (0x0A ∷ 0x0B ∷ [])
+    ≡ 0x08 ∷ 0x00 ∷ 0x01 ∷ 0x00 ∷ 0x05 ∷ 0x00 ∷ 0x00 ∷ 0x00 ∷ 0x0A ∷ 0x0B ∷ []
+unfolding recordOf
+stream-5-record = refl
+
+-- bytes that do not fit are not written, and those that do leave the length as it was
+pub does-fit : (bytes out : List ℕ) → length bytes ≤ length out → fitting bytes out ≡ bytes
+does-fit bytes out h = rw (le-leb _ _ h)
+
+pub does-not-fit : (bytes out : List ℕ) → length out < length bytes → fitting bytes out ≡ []
+does-not-fit bytes out h = rw (lt-leb _ _ h)
+
+pub length-over : (bytes out : List ℕ) → length bytes ≤ length out → length (over bytes out) ≡ length out
+length-over bytes out h = simp (length-append, length-drop) (omega arith)
+
+take-at-most : (n : ℕ) (bytes : List ℕ) → take (min n (length bytes)) bytes ≡ take n bytes
+take-at-most zero bytes = rw zero-min
+take-at-most (suc n) [] = rw min-zero
+take-at-most (suc n) (b ∷ bytes) = rw suc-min-suc (ap (λ (l : List ℕ). b ∷ l) (take-at-most n bytes))
+
+-- of eight bytes no more than eight are taken
+pub cut-at-eight : (n : ℕ) (bytes : List ℕ) → length bytes ≡ 8 → take (min n 8) bytes ≡ take n bytes
+cut-at-eight n bytes eight = rw (← eight) (take-at-most n bytes)
+
+pub cut-length : (s : Stream) (n : ℕ) (bytes : List ℕ) → length bytes ≡ 8 → length (recordOf s (take n bytes)) ≡ 8 + min n 8
+cut-length s n bytes eight = rw (record-length s (take n bytes), length-take n bytes, eight)
+
+-- the eight bytes before a payload of n bytes
+abbrev pub header : Stream → ℕ → List ℕ
+header s n =
+    (6 + n) ∷ 0 ∷ 1 ∷ 0 ∷ s .0 % 256 ∷ s .0 / 256 % 256 ∷ s .0 / 256 / 256 % 256 ∷ s .0 / 256 / 256 / 256 % 256 ∷ []
+
+pub header-and-payload : (s : Stream) (payload : List ℕ) → length payload ≤ 8 → recordOf s payload ≡ header s (length payload) ++ payload
+unfolding recordOf
+header-and-payload s payload small =
+    let low : (6 + length payload) % 256 ≡ 6 + length payload = omega arith in
+    let high : (6 + length payload) / 256 % 256 ≡ 0 = omega arith in
+    rw (low, high)
+
+-- the header stored byte by byte, then the payload copied behind it, is the record over the output
+pub stored-then-pasted : (s : Stream) (out bytes : List ℕ) (n : ℕ) → n ≤ 8 → 8 + n ≤ length out → length bytes ≡ 8
+    → paste (sets out 0 (header s n)) 8 bytes n ≡ over (recordOf s (take n bytes)) out
+stored-then-pasted s out bytes n small room eight =
+    let long : length (take n bytes) ≡ n = length-take-le n bytes (omega arith) in
+    rw (sets-eq (header s n) out 0 (omega arith), drop-append-add (header s n) (drop 8 out) n, drop-drop n 8 out)
+    (rw (record-length s (take n bytes), header-and-payload s (take n bytes) (omega arith), long))

@@ -1,0 +1,60 @@
+-- Every public promise is met by one answer only, and leaves a lent output one content only.
+use mathlib.Core.Path.{_≡_, sym, _∙_}
+use mathlib.Core.List.{List}
+use Prim.Native.Nat.{ℕ}
+use denote.Ref.{now}
+use Rattle.wire.proofs.class.carries.Reads as carries
+use Rattle.wire.proofs.delivered.record_length.Reads as record-length
+use Rattle.wire.proofs.delivered.write_record.Reads as write-record
+use Rattle.wire.proofs.frame.bad_frame.Reads as bad-frame
+use Rattle.wire.proofs.ids.BusId.split.Reads as split
+use Rattle.wire.proofs.ids.Stream.join.Reads as join
+use Rattle.wire.proofs.reply.Reply.number.Reads as number
+use Rattle.wire.proofs.settings.Settings.legal.Reads as legal
+use Rattle.wire.proofs.settings.legal_numbers.Reads as legal-numbers
+
+-- A function's promise, as it is read from its source: a statement about lifetimes, the input, the answer, and what is
+-- behind each parameter at the exit.
+module _ {L : Type 0} {I A E : L → Type 0} where
+  -- for every input any two answers that meet the promise are equal
+  abbrev pub OneAnswer : ((l : L) → I l → A l → E l → Type 0) → Type 0
+  OneAnswer promise = (l : L) (input : I l) (a b : A l) (s t : E l) → promise l input a s → promise l input b t → a ≡ b
+
+  -- and so are any two contents of what was lent
+  abbrev pub OneContent : ((l : L) → I l → A l → E l → Type 0) → ((l : L) → E l → List ℕ) → Type 0
+  OneContent promise content =
+      (l : L) (input : I l) (a b : A l) (s t : E l) → promise l input a s → promise l input b t → content l s ≡ content l t
+
+-- the one law: two values that meet the same definition are equal
+pub same : {A : Type 0} {d a b : A} → a ≡ d → b ≡ d → a ≡ b
+same p q = p ∙ sym q
+
+pub carries-unique : OneAnswer carries.Post
+carries-unique l input a b s t = same
+
+pub record-length-unique : OneAnswer record-length.Post
+record-length-unique l input a b s t = same
+
+pub write-record-unique : OneAnswer write-record.Post
+write-record-unique l input a b s t p q = same (p .0) (q .0)
+
+pub write-record-content-unique : OneContent write-record.Post (λ l e. now (e .0))
+write-record-content-unique l input a b s t p q = same (p .1) (q .1)
+
+pub bad-frame-unique : OneAnswer bad-frame.Post
+bad-frame-unique l input a b s t = same
+
+pub split-unique : OneAnswer split.Post
+split-unique l input a b s t = same
+
+pub join-unique : OneAnswer join.Post
+join-unique l input a b s t = same
+
+pub number-unique : OneAnswer number.Post
+number-unique l input a b s t = same
+
+pub legal-unique : OneAnswer legal.Post
+legal-unique l input a b s t = same
+
+pub legal-numbers-unique : OneAnswer legal-numbers.Post
+legal-numbers-unique l input a b s t = same

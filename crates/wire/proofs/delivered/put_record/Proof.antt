@@ -1,0 +1,148 @@
+-- `put_record` meets its contract. After the header the loop copies the payload byte by byte behind it: at its turn i
+-- the output is the one at the loop's start with the first i bytes pasted at 8.
+use borrow.Author.Needs.{needs}
+use native.Mathlib.Omega.{arith}
+use native.Mathlib.Numerals.{add-one}
+use mathlib.Core.Path.{_≡_, refl, ap, _∙_}
+use mathlib.Core.List.{List}
+use Prim.Native.Nat.{ℕ, _+_, _-_, _≤_}
+use lib.ListN.{length, getD, length-set}
+use lib.Seq.{sets, length-sets, paste, paste-zero, paste-suc}
+use denote.Ref.{now}
+use Rattle.wire.proofs.Records.{header, stored-then-pasted}
+use Rattle.wire.proofs.delivered.put_record.Statement.{statement}
+use Rattle.wire.proofs.delivered.put_record.Tie as tie
+
+abbrev Inv-loop : tie.InvT-loop
+Inv-loop out₀ n bytes s s1 s2 s3 i₀ out i = (i ≤ n) × (length out ≡ length out₀) × (out ≡ paste out₀ 8 bytes i)
+
+abbrev μ-loop : tie.MeasureT-loop
+μ-loop out₀ n bytes s s1 s2 s3 i₀ out i = n - i
+
+-- the output where the loop begins
+abbrev with-header : tie.Start Inv-loop μ-loop → List ℕ
+with-header c = sets (now (c .args .out)) 0 (header (c .args .stream) (c .args .n))
+
+header-keeps-length : (c : tie.Start Inv-loop μ-loop) → length (with-header c) ≡ length (now (c .args .out))
+header-keeps-length c = length-sets (now (c .args .out)) 0 (header (c .args .stream) (c .args .n))
+
+eight-bytes : (c : tie.Start Inv-loop μ-loop) → length (c .args .t3) ≡ 8
+eight-bytes c = search needs
+
+add-out : tie.Need-add-out Inv-loop μ-loop
+add-out c = search needs
+
+cast-out : tie.Need-cast-out Inv-loop μ-loop
+cast-out c = search needs
+
+slice-write-out : tie.Need-slice-write-out Inv-loop μ-loop
+slice-write-out c = search needs
+
+slice-write-out-2 : tie.Need-slice-write-out-2 Inv-loop μ-loop
+slice-write-out-2 c = simp length-set (omega arith)
+
+slice-write-out-3 : tie.Need-slice-write-out-3 Inv-loop μ-loop
+slice-write-out-3 c = simp length-set (omega arith)
+
+slice-write-out-4 : tie.Need-slice-write-out-4 Inv-loop μ-loop
+slice-write-out-4 c = simp length-set (omega arith)
+
+cast-out-2 : tie.Need-cast-out-2 Inv-loop μ-loop
+cast-out-2 c = search needs
+
+slice-write-out-5 : tie.Need-slice-write-out-5 Inv-loop μ-loop
+slice-write-out-5 c = simp length-set (omega arith)
+
+cast-out-3 : tie.Need-cast-out-3 Inv-loop μ-loop
+cast-out-3 c = search needs
+
+slice-write-out-6 : tie.Need-slice-write-out-6 Inv-loop μ-loop
+slice-write-out-6 c = simp length-set (omega arith)
+
+cast-out-4 : tie.Need-cast-out-4 Inv-loop μ-loop
+cast-out-4 c = search needs
+
+slice-write-out-7 : tie.Need-slice-write-out-7 Inv-loop μ-loop
+slice-write-out-7 c = simp length-set (omega arith)
+
+cast-out-5 : tie.Need-cast-out-5 Inv-loop μ-loop
+cast-out-5 c = search needs
+
+slice-write-out-8 : tie.Need-slice-write-out-8 Inv-loop μ-loop
+slice-write-out-8 c = simp length-set (omega arith)
+
+loop-holds : tie.Need-loop-holds Inv-loop μ-loop
+loop-holds c = (search needs, refl, paste-zero (with-header c) 8 (c .args .t3))
+
+array-read-out : tie.Need-array-read-out Inv-loop μ-loop
+array-read-out c = search needs
+
+add-out-2 : tie.Need-add-out-2 Inv-loop μ-loop
+add-out-2 c = search needs
+
+slice-write-out-9 : tie.Need-slice-write-out-9 Inv-loop μ-loop
+slice-write-out-9 c = omega (arith, header-keeps-length (c .before .before))
+
+add-i : tie.Need-add-i Inv-loop μ-loop
+add-i c = search needs
+
+loop-less : tie.Need-loop-less Inv-loop μ-loop
+loop-less c = search needs
+
+loop-again : tie.Need-loop-again Inv-loop μ-loop
+loop-again c =
+    let s = c .before .before in
+    let bytes = s .args .t3 in
+    let i = c .before .loop .i in (
+      omega arith,
+      length-set (c .before .loop .out) (8 + i) (getD bytes i 0) ∙ c .before .loop .inv .1,
+      rw (c .before .loop .inv .2, add-one)
+          (paste-suc (with-header s) 8 bytes i 0 (omega (arith, header-keeps-length s)) (omega (arith, eight-bytes s))),
+    )
+
+add-result : tie.Need-add-result Inv-loop μ-loop
+add-result c = search needs
+
+same-length : tie.Need-same-length Inv-loop μ-loop
+same-length c = c .before .loop .inv .1 ∙ header-keeps-length (c .before .before)
+
+returns : tie.Need-returns Inv-loop μ-loop
+returns c =
+    let s = c .before .before in
+    let bytes = s .args .t3 in
+    let all : c .before .loop .i ≡ s .args .n = omega arith in (
+      refl,
+      c .before .loop .inv .2 ∙ ap (paste (with-header s) 8 bytes) all
+          ∙ stored-then-pasted (s .args .stream) (now (s .args .out)) bytes (s .args .n) (omega arith) (omega arith) (eight-bytes s),
+    )
+
+pub put-record-spec : {M : Type 1} → statement M
+put-record-spec =
+    tie.close
+    (tie.spec
+    Inv-loop
+    μ-loop
+    add-out
+    cast-out
+    slice-write-out
+    slice-write-out-2
+    slice-write-out-3
+    slice-write-out-4
+    cast-out-2
+    slice-write-out-5
+    cast-out-3
+    slice-write-out-6
+    cast-out-4
+    slice-write-out-7
+    cast-out-5
+    slice-write-out-8
+    loop-holds
+    array-read-out
+    add-out-2
+    slice-write-out-9
+    add-i
+    loop-less
+    loop-again
+    add-result
+    same-length
+    returns)

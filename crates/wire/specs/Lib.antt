@@ -1,0 +1,8 @@
+-- The definitions that the promises of wire cite.
+pub mod Replies
+pub mod Tells
+pub mod Identifiers
+pub mod Classes
+pub mod Frames
+pub mod Settings
+pub mod Delivered

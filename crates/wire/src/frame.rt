@@ -1,0 +1,17 @@
+// Whether what the controller hands over is a frame at all.
+use crate::ids::BusId;
+ghost use mathlib.Core.Path.{_≡_};
+ghost use lib.ListN.{length};
+ghost use Rattle.wire.specs.Frames.{badFrame};
+
+// Whether identifier, DLC and payload length make no frame.
+pub fn bad_frame(id: BusId, dlc: u8, payload: &[u8]) -> bool
+    ensures { λ r. ⌜ r ≡ badFrame id dlc (length (now (payload .entry))) ⌝ }
+{
+    let n = id.0;
+    let code = n % 4;
+    (n > BusId::MAX)
+        | (dlc > 8)
+        | (payload.len() != dlc as usize)
+        | (((code == 1) | (code == 2)) & (dlc != 0))
+}

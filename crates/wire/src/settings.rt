@@ -1,0 +1,77 @@
+// The settings of a stream, and the test that they are within the rules.
+use crate::ids::Stream;
+ghost use mathlib.Core.Path.{_≡_};
+ghost use Rattle.wire.specs.Settings.{legal};
+
+pub struct Settings {
+    // Data reach, in ticks.
+    pub rd: u16,
+    // Confirm delay.
+    pub dc: u16,
+    // Abort reach.
+    pub ra: u16,
+    // Deliver delay.
+    pub dd: u16,
+    pub role: u8,
+    pub class: u8,
+}
+
+impl Settings {
+    pub const RECEIVE: u8 = 0;
+
+    pub const SEND: u8 = 1;
+
+    pub const PLAIN: u8 = 0;
+
+    pub const IMD: u8 = 1;
+
+    pub const TWO_MESSAGE: u8 = 2;
+
+    pub const MAX_DATA_REACH: u32 = 8000;
+
+    pub const MAX_CONFIRM_DELAY: u32 = 8000;
+
+    pub const MAX_ABORT_REACH: u32 = 4000;
+
+    pub const MAX_DELIVER_DELAY: u32 = 16000;
+
+    // Whether the stream may be set up with these settings.
+    pub fn legal(self, stream: Stream) -> bool
+        ensures { λ r. ⌜ r ≡ legal stream self ⌝ }
+    {
+        legal_numbers(
+            stream.0,
+            self.role as u32,
+            self.class as u32,
+            self.rd as u32,
+            self.dc as u32,
+            self.ra as u32,
+            self.dd as u32,
+        )
+    }
+}
+
+// The same test on seven plain numbers of any size.
+pub fn legal_numbers(stream: u32, role: u32, class: u32, rd: u32, dc: u32, ra: u32, dd: u32) -> bool
+    ensures { λ r. ⌜ r ≡ legal (record { 0 = stream }) (record { rd = rd; dc = dc; ra = ra; dd = dd; role = role; class = class }) ⌝ }
+{
+    let plain = (rd == 0) & (dc == 0) & (ra == 0) & (dd == 0);
+    let imd = (1 <= rd)
+        & (rd <= Settings::MAX_DATA_REACH)
+        & (dc == 0)
+        & (ra == 0)
+        & (rd <= dd)
+        & (dd <= Settings::MAX_DELIVER_DELAY);
+    let two_message = (1 <= rd)
+        & (rd <= Settings::MAX_DATA_REACH)
+        & (rd <= dc)
+        & (dc <= Settings::MAX_CONFIRM_DELAY)
+        & (1 <= ra)
+        & (ra <= Settings::MAX_ABORT_REACH)
+        & ((dc as u64) + (ra as u64) + 1 <= (dd as u64))
+        & (dd <= Settings::MAX_DELIVER_DELAY);
+    let numbers = ((class == Settings::PLAIN as u32) & plain)
+        | ((class == Settings::IMD as u32) & imd)
+        | ((class == Settings::TWO_MESSAGE as u32) & two_message);
+    (stream <= Stream::MAX) & (role <= Settings::SEND as u32) & numbers
+}

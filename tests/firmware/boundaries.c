@@ -1,0 +1,177 @@
+/* Calls every function of the C boundary at the edges of what it takes; plain C99, and C++ too. */
+#include <stdint.h>
+#include <stdio.h>
+
+#include "kosmydore.h"
+
+#define TOP UINT32_C(4294967295)
+
+static int passed = 0;
+static int failed = 0;
+
+static void same(int line, const char *call, uint32_t answer, uint32_t expected)
+{
+    if (answer == expected) {
+        passed++;
+        return;
+    }
+    failed++;
+    printf("line %d: %s is %lu, and not %lu\n", line, call, (unsigned long)answer, (unsigned long)expected);
+}
+
+#define SAME(call, expected) same(__LINE__, #call, (call), (expected))
+
+/* A join, and that the parts of its identifier are what was joined. */
+static void joins(int line, uint32_t stream, uint32_t code, uint32_t id)
+{
+    same(line, "join_reply", kosmydore_join_reply(stream, code), KOSMYDORE_DONE);
+    same(line, "join", kosmydore_join(stream, code), id);
+    same(line, "split_reply", kosmydore_split_reply(id), KOSMYDORE_DONE);
+    same(line, "split_stream", kosmydore_split_stream(id), stream);
+    same(line, "split_code", kosmydore_split_code(id), code);
+}
+
+#define JOINS(stream, code, id) joins(__LINE__, stream, code, id)
+
+static void join_refused(int line, uint32_t stream, uint32_t code)
+{
+    same(line, "join_reply", kosmydore_join_reply(stream, code), KOSMYDORE_BAD_SETTINGS);
+    same(line, "join", kosmydore_join(stream, code), 0);
+}
+
+#define JOIN_REFUSED(stream, code) join_refused(__LINE__, stream, code)
+
+static void split_refused(int line, uint32_t id)
+{
+    same(line, "split_reply", kosmydore_split_reply(id), KOSMYDORE_BAD_FRAME);
+    same(line, "split_stream", kosmydore_split_stream(id), 0);
+    same(line, "split_code", kosmydore_split_code(id), 0);
+}
+
+#define SPLIT_REFUSED(id) split_refused(__LINE__, id)
+
+#define TAKEN(stream, role, class_, rd, dc, ra, dd) \
+    SAME(kosmydore_settings_reply(stream, role, class_, rd, dc, ra, dd), KOSMYDORE_DONE)
+
+#define REFUSED(stream, role, class_, rd, dc, ra, dd) \
+    SAME(kosmydore_settings_reply(stream, role, class_, rd, dc, ra, dd), KOSMYDORE_BAD_SETTINGS)
+
+static void identifiers(void)
+{
+    JOINS(0, 0, 0);
+    JOINS(0, 3, 3);
+    JOINS(1, 0, 4);
+    JOINS(5, 0, 20);
+    JOINS(5, 1, 21);
+    JOINS(5, 2, 22);
+    JOINS(5, 3, 23);
+    JOINS(KOSMYDORE_MAX_STREAM - 1, 3, KOSMYDORE_MAX_BUS_ID - 4);
+    JOINS(KOSMYDORE_MAX_STREAM, 0, KOSMYDORE_MAX_BUS_ID - 3);
+    JOINS(KOSMYDORE_MAX_STREAM, KOSMYDORE_MAX_CODE, KOSMYDORE_MAX_BUS_ID);
+
+    JOIN_REFUSED(0, 4);
+    JOIN_REFUSED(0, 256);
+    JOIN_REFUSED(0, TOP);
+    JOIN_REFUSED(KOSMYDORE_MAX_STREAM, 4);
+    JOIN_REFUSED(KOSMYDORE_MAX_STREAM + 1, 0);
+    JOIN_REFUSED(KOSMYDORE_MAX_STREAM + 1, 3);
+    JOIN_REFUSED(UINT32_C(1) << 30, 0);
+    JOIN_REFUSED(TOP, 0);
+    JOIN_REFUSED(TOP, TOP);
+
+    SPLIT_REFUSED(KOSMYDORE_MAX_BUS_ID + 1);
+    SPLIT_REFUSED(UINT32_C(1) << 31);
+    SPLIT_REFUSED(TOP);
+}
+
+static void stream_role_and_class(void)
+{
+    TAKEN(0, 0, 0, 0, 0, 0, 0);
+    TAKEN(KOSMYDORE_MAX_STREAM, 1, 0, 0, 0, 0, 0);
+    REFUSED(KOSMYDORE_MAX_STREAM + 1, 0, 0, 0, 0, 0, 0);
+    REFUSED(TOP, 0, 0, 0, 0, 0, 0);
+    REFUSED(5, 2, 0, 0, 0, 0, 0);
+    REFUSED(5, 256, 0, 0, 0, 0, 0);
+    REFUSED(5, 257, 0, 0, 0, 0, 0);
+    REFUSED(5, TOP, 0, 0, 0, 0, 0);
+    REFUSED(5, 0, 3, 0, 0, 0, 0);
+    REFUSED(5, 0, 256, 0, 0, 0, 0);
+    REFUSED(5, 0, 258, 2, 3, 2, 6);
+    REFUSED(5, 0, TOP, 0, 0, 0, 0);
+    REFUSED(TOP, TOP, TOP, TOP, TOP, TOP, TOP);
+}
+
+static void plain(void)
+{
+    REFUSED(5, 0, 0, 1, 0, 0, 0);
+    REFUSED(5, 0, 0, 0, 1, 0, 0);
+    REFUSED(5, 0, 0, 0, 0, 1, 0);
+    REFUSED(5, 0, 0, 0, 0, 0, 1);
+    REFUSED(5, 0, 0, 65536, 0, 0, 0);
+    REFUSED(5, 0, 0, 0, 0, 0, TOP);
+}
+
+static void imd(void)
+{
+    TAKEN(5, 0, 1, 1, 0, 0, 1);
+    TAKEN(5, 1, 1, 8000, 0, 0, 8000);
+    TAKEN(5, 1, 1, 8000, 0, 0, 16000);
+    REFUSED(5, 0, 1, 0, 0, 0, 1);
+    REFUSED(5, 0, 1, 8001, 0, 0, 16000);
+    REFUSED(5, 0, 1, 2, 1, 0, 2);
+    REFUSED(5, 0, 1, 2, 0, 1, 2);
+    REFUSED(5, 0, 1, 2, 0, 0, 1);
+    REFUSED(5, 0, 1, 2, 0, 0, 16001);
+    REFUSED(5, 0, 1, 65537, 0, 0, 65537);
+    REFUSED(5, 0, 1, TOP, 0, 0, TOP);
+}
+
+static void two_message(void)
+{
+    TAKEN(5, 0, 2, 2, 3, 2, 6);
+    TAKEN(5, 1, 2, 2, 3, 2, 6);
+    REFUSED(5, 0, 2, 2, 3, 2, 5);
+    TAKEN(5, 0, 2, 1, 1, 1, 3);
+    REFUSED(5, 0, 2, 1, 1, 1, 2);
+    TAKEN(5, 0, 2, 8000, 8000, 4000, 12001);
+    REFUSED(5, 0, 2, 8000, 8000, 4000, 12000);
+    TAKEN(5, 0, 2, 8000, 8000, 4000, 16000);
+    REFUSED(5, 0, 2, 8000, 8000, 4000, 16001);
+    REFUSED(5, 0, 2, 0, 3, 2, 6);
+    REFUSED(5, 0, 2, 8001, 8001, 1, 16000);
+    REFUSED(5, 0, 2, 4, 3, 2, 6);
+    REFUSED(5, 0, 2, 2, 8001, 2, 16000);
+    REFUSED(5, 0, 2, 2, 3, 0, 6);
+    REFUSED(5, 0, 2, 2, 3, 4001, 16000);
+    REFUSED(5, 0, 2, 2, 3, 2, 65542);
+    REFUSED(5, 0, 2, 2, TOP, TOP, 6);
+    REFUSED(5, 0, 2, TOP, TOP, TOP, TOP);
+}
+
+static void record_length(void)
+{
+    uint32_t length;
+
+    for (length = 0; length <= KOSMYDORE_MAX_PAYLOAD; length++) {
+        SAME(kosmydore_record_length_reply(length), KOSMYDORE_DONE);
+        SAME(kosmydore_record_length(length), 8 + length);
+    }
+    SAME(kosmydore_record_length_reply(9), KOSMYDORE_BAD_LENGTH);
+    SAME(kosmydore_record_length(9), 0);
+    SAME(kosmydore_record_length_reply(256), KOSMYDORE_BAD_LENGTH);
+    SAME(kosmydore_record_length(256), 0);
+    SAME(kosmydore_record_length_reply(TOP), KOSMYDORE_BAD_LENGTH);
+    SAME(kosmydore_record_length(TOP), 0);
+}
+
+int main(void)
+{
+    identifiers();
+    stream_role_and_class();
+    plain();
+    imd();
+    two_message();
+    record_length();
+    printf("%d passed, %d failed\n", passed, failed);
+    return failed == 0 ? 0 : 1;
+}
