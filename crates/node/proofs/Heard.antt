@@ -17,26 +17,14 @@ use Rattle.node.specs.declared.Node.{Node}
 use Rattle.node.specs.Slots.{empty, isOf, isReceiver, indexOf}
 use Rattle.node.specs.Nodes.{slotOf, withSlots, refused, done}
 use Rattle.node.specs.Hear.{hearRoom, clashes, heardBy, deliveredAtOnce, hearAt, hear}
-use Rattle.node.proofs.Choices.{neither}
+use Rattle.wire.proofs.Frames.{frame-bounds}
 use Rattle.node.proofs.Finding.{slot-found, slot-stored, slot-missed}
 
--- a frame: its identifier splits, and its payload has at most eight bytes
-module _ (id : BusId) (dlc len : ℕ) (good : badFrame id dlc len ≡ false) where
-  within-limits : (ltb maxBusId (id .0) ≡ false) × (ltb maxPayload dlc ≡ false) × (not (eqb len dlc) ≡ false)
-  unfolding badFrame
-  within-limits =
-      let three = neither (ltb maxBusId (id .0) || ltb maxPayload dlc || not (eqb len dlc)) (unwantedPayload id dlc) good .0 in
-      let two = neither (ltb maxBusId (id .0) || ltb maxPayload dlc) (not (eqb len dlc)) three in
-      let one = neither (ltb maxBusId (id .0)) (ltb maxPayload dlc) (two .0) in
-      (one .0, one .1, two .1)
-
-  pub frame-splits : split id ≡ record { reply = Done; stream = streamOf id; code = codeOf id }
-  unfolding split
-  frame-splits = rw (le-leb (id .0) maxBusId (ltb-false maxBusId (id .0) (within-limits .0)))
-
-  pub frame-is-short : len ≤ maxPayload
-  frame-is-short =
-      omega (arith, ltb-false maxPayload dlc (within-limits .1), eqb-true len dlc (not-false _ (within-limits .2)))
+-- the identifier of a frame splits
+pub frame-splits : (id : BusId) (dlc len : ℕ) → badFrame id dlc len ≡ false
+    → split id ≡ record { reply = Done; stream = streamOf id; code = codeOf id }
+unfolding split
+frame-splits id dlc len good = rw (le-leb (id .0) maxBusId (frame-bounds id dlc len good .identifier))
 
 -- each way through the refusals, by the tests on it
 module _ (id : BusId) (dlc : ℕ) (payload output : List ℕ) (n : Node) where

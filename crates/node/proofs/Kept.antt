@@ -14,6 +14,7 @@ use Rattle.wire.specs.Settings.{legal}
 use Rattle.wire.specs.Identifiers.{maxBusId, streamOf, codeOf}
 use Rattle.wire.specs.Classes.{carries}
 use Rattle.wire.specs.Frames.{maxPayload, unwantedPayload, badFrame}
+use Rattle.wire.proofs.Frames.{frame-length}
 use Rattle.node.specs.declared.slots.Slot.{Slot}
 use Rattle.node.specs.declared.Node.{Node}
 use Rattle.node.specs.Slots.{empty, isFree, isOf, isReceiver, isSender, some}
@@ -34,15 +35,6 @@ use Rattle.node.proofs.KeptSlots.{kept-empty, kept-set-up, kept-heard, 
 
 pub kept-fresh : Kept fresh
 kept-fresh = record { slots-32 = refl; distinct = distinct-fresh slotCount; each = all-replicate (KeptSlot 0) slotCount empty (kept-empty 0) }
-
--- a frame's payload is as long as its DLC, which is at most 8
-good-length : (id : BusId) (dlc len : ℕ) → badFrame id dlc len ≡ false → len ≤ maxPayload
-unfolding badFrame
-good-length id dlc len good =
-    let a = neither (ltb maxBusId (id .0) || ltb maxPayload dlc || not (eqb len dlc)) (unwantedPayload id dlc) good .0 in
-    let b = neither (ltb maxBusId (id .0) || ltb maxPayload dlc) (not (eqb len dlc)) a in
-    let c = neither (ltb maxBusId (id .0)) (ltb maxPayload dlc) (b .0) .1 in
-    omega (arith, ltb-false maxPayload dlc c, eqb-true len dlc (not-false _ (b .1)))
 
 module _ (n : Node) (k : Kept n) where
   set-up-keeps : (s : Stream) (settings : Settings) → Kept (setUp s settings n .node)
@@ -87,7 +79,7 @@ module _ (n : Node) (k : Kept n) where
   hear-keeps id dlc payload output =
       unless Kept n (ltb (length output) hearRoom) _ _ k λ room.
       unless Kept n (badFrame id dlc (length payload)) _ _ k λ good.
-      hear-at-keeps id payload (good-length id dlc (length payload) good)
+      hear-at-keeps id payload (frame-length id dlc (length payload) good)
 
   tick-keeps : (output : List ℕ) → Kept (tick unbounded output n .node)
   unfolding tick

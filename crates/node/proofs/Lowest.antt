@@ -10,14 +10,14 @@ use native.Mathlib.Omega.{arith}
 use lib.Dec.{leb, ltb}
 use lib.ListN.{length}
 use borrow.Author.Tests.{leb-true, leb-false, le-leb, lt-leb, le-ltb, ltb-true, ltb-false, eq-eqb}
-use Rattle.wire.specs.Identifiers.{maxStream, maxBusId, streamOf}
+use Rattle.wire.specs.Identifiers.{maxStream, maxBusId, maxCode, streamOf, join}
 use Rattle.wire.specs.Settings.{isPlain}
 use Rattle.wire.specs.declared.reply.Reply.the-variants.{Done, ShortOutput, Nothing}
 use Rattle.node.specs.declared.slots.Slot.{Slot}
 use Rattle.node.specs.declared.Node.{Node}
 use Rattle.node.specs.Slots.{isOf, some}
 use Rattle.node.specs.Nodes.{Outcome, refused}
-use Rattle.node.specs.NextFrame.{nextRoom, one, pendingCodes, idsFrom, pendingIn, pendingIds, lowest, give, nextFrame}
+use Rattle.node.specs.NextFrame.{nextRoom, payloadCode, one, pendingCodes, idsFrom, pendingIn, pendingIds, lowest, give, nextFrame}
 
 -- ── of any identifiers ──
 pub lowest-at-most : (l : List ℕ) → lowest l ≤ maxBusId + 1
@@ -54,57 +54,7 @@ lowest-is-one (i ∷ l) h = go (leb i (lowest l)) refl (lowest-is-one l)
         let same : min i (lowest l) ≡ lowest l = omega arith in
         List·Memᴰ·tail (Memᴰ·cast same (rest (omega arith)))
 
--- ── of a slot ──
--- the lowest of the frames that are pending in a slot of this stream
-abbrev pub lowestFrom : (stream : ℕ) → (plain payload confirmation abort : Bool) → ℕ
-lowestFrom stream plain payload confirmation abort =
-    cond (payload && not plain) (stream * 4)
-    (cond confirmation (stream * 4 + 1)
-    (cond abort (stream * 4 + 2)
-    (cond payload (stream * 4 + 3) (maxBusId + 1))))
-
-lowest-code : (stream : ℕ) → stream ≤ maxStream → (plain payload confirmation abort : Bool)
-    → lowest (idsFrom stream (one payload (cond plain 3 0) ++ one confirmation 1 ++ one abort 2))
-    ≡ lowestFrom stream plain payload confirmation abort
-unfolding lowest
-lowest-code n h false false false false = omega arith
-lowest-code n h false false false true = omega arith
-lowest-code n h false false true false = omega arith
-lowest-code n h false false true true = omega arith
-lowest-code n h false true false false = omega arith
-lowest-code n h false true false true = omega arith
-lowest-code n h false true true false = omega arith
-lowest-code n h false true true true = omega arith
-lowest-code n h true false false false = omega arith
-lowest-code n h true false false true = omega arith
-lowest-code n h true false true false = omega arith
-lowest-code n h true false true true = omega arith
-lowest-code n h true true false false = omega arith
-lowest-code n h true true false true = omega arith
-lowest-code n h true true true false = omega arith
-lowest-code n h true true true true = omega arith
-
-module _ (x : Slot) where
-  pub no-stream : maxStream < x .stream .0 → maxBusId + 1 ≡ lowest (pendingIn x)
-  unfolding lowest pendingIn
-  no-stream h = go (x .used)
-    where
-      go : (t : Bool) → maxBusId + 1 ≡ lowest (cond (t && leb (x .stream .0) maxStream) (idsFrom (x .stream .0) (pendingCodes x)) [])
-      go true = rw (lt-leb (x .stream .0) maxStream h)
-      go false = refl
-
-  pub not-set-up : x .used ≡ false → maxBusId + 1 ≡ lowest (pendingIn x)
-  unfolding lowest pendingIn
-  not-set-up h = rw h
-
-  pub lowest-of-slot : x .used ≡ true → x .stream .0 ≤ maxStream
-      → lowest (pendingIn x) ≡ lowestFrom (x .stream .0) (isPlain (x .settings)) (x .pending .payload) (x .pending .confirmation) (x .pending .abort)
-  unfolding pendingIn
-  lowest-of-slot used small =
-      rw (used, le-leb (x .stream .0) maxStream small)
-      (lowest-code (x .stream .0) small (isPlain (x .settings)) (x .pending .payload) (x .pending .confirmation) (x .pending .abort))
-
--- ── where a pending identifier comes from ──
+-- ── of a slot's codes ──
 one-code : (t : Bool) (code : ℕ) {c : ℕ} → List·Memᴰ c (one t code) → c ≡ code
 one-code true code m = List·Memᴰ·eq-of-singleton m
 one-code false code m = absurd (List·Memᴰ·not-nil m)
@@ -113,18 +63,100 @@ payload-code : (t : Bool) → cond t 3 0 ≤ 3
 payload-code true = omega arith
 payload-code false = omega arith
 
-code-at-most-three : (plain payload confirmation abort : Bool) {c : ℕ}
-    → List·Memᴰ c (one payload (cond plain 3 0) ++ one confirmation 1 ++ one abort 2) → c ≤ 3
-code-at-most-three plain payload confirmation abort {c} m =
+code-at-most-three : (x : Slot) (c : ℕ) → List·Memᴰ c (pendingCodes x) → c ≤ 3
+code-at-most-three x c m =
+    let p = x .pending in
     ⊎-elim
-    (λ (front : List·Memᴰ c (one payload (cond plain 3 0) ++ one confirmation 1)).
+    (λ (others : List·Memᴰ c (one (p .payload) (payloadCode x) ++ one (p .confirmation) 1)).
     ⊎-elim
-    (λ (m : List·Memᴰ c (one payload (cond plain 3 0))). omega (arith, one-code payload (cond plain 3 0) m, payload-code plain))
-    (λ (m : List·Memᴰ c (one confirmation 1)). omega (arith, one-code confirmation 1 m))
-    (List·Memᴰ·append-cases (one payload (cond plain 3 0)) front))
-    (λ (m : List·Memᴰ c (one abort 2)). omega (arith, one-code abort 2 m))
-    (List·Memᴰ·append-cases (one payload (cond plain 3 0) ++ one confirmation 1) m)
+    (λ (m : List·Memᴰ c (one (p .payload) (payloadCode x))).
+    omega (arith, one-code (p .payload) (payloadCode x) m, payload-code (isPlain (x .settings))))
+    (λ (m : List·Memᴰ c (one (p .confirmation) 1)). omega (arith, one-code (p .confirmation) 1 m))
+    (List·Memᴰ·append-cases (one (p .payload) (payloadCode x)) others))
+    (λ (m : List·Memᴰ c (one (p .abort) 2)). omega (arith, one-code (p .abort) 2 m))
+    (List·Memᴰ·append-cases (one (p .payload) (payloadCode x) ++ one (p .confirmation) 1) m)
 
+-- the frames tried by ascending code
+abbrev pub firstCode : (plain payload confirmation abort : Bool) → ℕ
+firstCode plain payload confirmation abort =
+    cond (payload && not plain) 0 (cond confirmation 1 (cond abort 2 (cond payload 3 (maxBusId + 1))))
+
+by-flags : (plain payload confirmation abort : Bool)
+    → lowest (one payload (cond plain 3 0) ++ one confirmation 1 ++ one abort 2) ≡ firstCode plain payload confirmation abort
+unfolding lowest
+by-flags false false false false = refl
+by-flags false false false true = refl
+by-flags false false true false = refl
+by-flags false false true true = refl
+by-flags false true false false = refl
+by-flags false true false true = refl
+by-flags false true true false = refl
+by-flags false true true true = refl
+by-flags true false false false = refl
+by-flags true false false true = refl
+by-flags true false true false = refl
+by-flags true false true true = refl
+by-flags true true false false = refl
+by-flags true true false true = refl
+by-flags true true true false = refl
+by-flags true true true true = refl
+
+pub lowest-code : (x : Slot)
+    → lowest (pendingCodes x) ≡ firstCode (isPlain (x .settings)) (x .pending .payload) (x .pending .confirmation) (x .pending .abort)
+lowest-code x = by-flags (isPlain (x .settings)) (x .pending .payload) (x .pending .confirmation) (x .pending .abort)
+
+code-or-none : (x : Slot) → 3 < lowest (pendingCodes x) → lowest (pendingCodes x) ≡ maxBusId + 1
+code-or-none x h = go (leb (lowest (pendingCodes x)) maxBusId) refl
+  where
+    go : (t : Bool) → leb (lowest (pendingCodes x)) maxBusId ≡ t → lowest (pendingCodes x) ≡ maxBusId + 1
+    go true e =
+        let one-of-them = lowest-is-one (pendingCodes x) (leb-true (lowest (pendingCodes x)) maxBusId e) in
+        absurd (omega (arith, code-at-most-three x (lowest (pendingCodes x)) one-of-them))
+    go false e = omega (arith, lowest-at-most (pendingCodes x), leb-false (lowest (pendingCodes x)) maxBusId e)
+
+-- ── of a slot's identifiers ──
+lowest-ids : (stream : ℕ) (codes : List ℕ) → lowest (idsFrom stream codes) ≡ min (stream * 4 + lowest codes) (maxBusId + 1)
+unfolding lowest
+lowest-ids stream [] = omega arith
+lowest-ids stream (code ∷ codes) = let h = lowest-ids stream codes in omega arith
+
+module _ (x : Slot) where
+  -- by whether the slot is set up with a number that is a stream's
+  lowest-by : Bool → ℕ
+  lowest-by stream = cond stream (min (x .stream .0 * 4 + lowest (pendingCodes x)) (maxBusId + 1)) (maxBusId + 1)
+
+  in-slot : lowest (pendingIn x) ≡ lowest-by (x .used && leb (x .stream .0) maxStream)
+  unfolding pendingIn lowest lowest-by
+  in-slot = go (x .used && leb (x .stream .0) maxStream)
+    where
+      go : (t : Bool) → lowest (cond t (idsFrom (x .stream .0) (pendingCodes x)) []) ≡ lowest-by t
+      go true = lowest-ids (x .stream .0) (pendingCodes x)
+      go false = refl
+
+  pub not-set-up : x .used ≡ false → maxBusId + 1 ≡ lowest (pendingIn x)
+  unfolding lowest-by
+  not-set-up e = rw (in-slot, e)
+
+  pub no-stream : x .used ≡ true → maxStream < x .stream .0 → maxBusId + 1 ≡ lowest (pendingIn x)
+  unfolding lowest-by
+  no-stream e h = rw (in-slot, e, lt-leb (x .stream .0) maxStream h)
+
+  pub no-code : 3 < lowest (pendingCodes x) → maxBusId + 1 ≡ lowest (pendingIn x)
+  unfolding lowest-by
+  no-code h = rw in-slot (go (x .used && leb (x .stream .0) maxStream))
+    where
+      go : (t : Bool) → maxBusId + 1 ≡ lowest-by t
+      go true = omega (arith, code-or-none x h)
+      go false = refl
+
+  pub joined-code : (code : ℕ) → code ≡ lowest (pendingCodes x) → code ≤ maxCode → x .used ≡ true → x .stream .0 ≤ maxStream
+      → join (x .stream) code .id ≡ record { 0 = lowest (pendingIn x) }
+  unfolding lowest-by join
+  joined-code code is-lowest small used stream =
+      let in-range : min (x .stream .0 * 4 + code) (maxBusId + 1) ≡ x .stream .0 * 4 + code = omega arith in
+      rw (in-slot, used, le-leb (x .stream .0) maxStream stream, le-leb code maxCode small, ← is-lowest, in-range)
+
+-- ── where a pending identifier comes from ──
 from-codes : (stream : ℕ) (codes : List ℕ) (i : ℕ) → ((c : ℕ) → List·Memᴰ c codes → c ≤ 3) → List·Memᴰ i (idsFrom stream codes)
     → (stream * 4 ≤ i) × (i ≤ stream * 4 + 3)
 from-codes stream [] i small m = absurd (List·Memᴰ·not-nil m)
@@ -139,9 +171,6 @@ pub record FromSlot (i : ℕ) (x : Slot) : Type 0 where
   pub in-range : i ≤ maxBusId
   pub of-stream : isOf (streamOf (record { 0 = i })) x ≡ true
 
-codes-at-most-three : (x : Slot) (c : ℕ) → List·Memᴰ c (pendingCodes x) → c ≤ 3
-codes-at-most-three x c = code-at-most-three (isPlain (x .settings)) (x .pending .payload) (x .pending .confirmation) (x .pending .abort)
-
 pub pending-from-slot : (x : Slot) {i : ℕ} → List·Memᴰ i (pendingIn x) → FromSlot i x
 unfolding pendingIn
 pending-from-slot x {i} m = go (x .used) refl (leb (x .stream .0) maxStream) refl m
@@ -149,7 +178,7 @@ pending-from-slot x {i} m = go (x .used) refl (leb (x .stream .0) maxStream) ref
     go : (used : Bool) → x .used ≡ used → (small : Bool) → leb (x .stream .0) maxStream ≡ small
         → List·Memᴰ i (cond (used && small) (idsFrom (x .stream .0) (pendingCodes x)) []) → FromSlot i x
     go true u true s m =
-        let range = from-codes (x .stream .0) (pendingCodes x) i (codes-at-most-three x) m in
+        let range = from-codes (x .stream .0) (pendingCodes x) i (code-at-most-three x) m in
         let small = leb-true (x .stream .0) maxStream s in
         let stream : x .stream .0 ≡ i / 4 = omega arith in
         record { in-range = omega arith; of-stream = rw (u, eq-eqb (x .stream .0) (i / 4) stream) }

@@ -1,12 +1,14 @@
 -- The ways through the next frame: on each of them what is answered is what the definition says.
-use mathlib.Core.Path.{_≡_}
+use mathlib.Core.Path.{_≡_, ap}
 use mathlib.Core.List.{List}
-use Prim.Native.Nat.{ℕ, _+_, _-_, _%_, _≤_, _<_, min}
+use Prim.Native.Nat.{ℕ, _+_, _-_, _≤_, _<_, min}
 use native.Mathlib.Omega.{arith}
 use lib.ListN.{length, getD, set, drop, drop-of-length-le}
-use borrow.Author.Tests.{lt-ltb, le-ltb}
+use borrow.Author.Tests.{lt-ltb, le-ltb, le-leb}
 use Rattle.wire.specs.declared.reply.Reply.the-variants.{Done, ShortOutput, Nothing}
-use Rattle.wire.specs.Identifiers.{maxBusId, streamOf}
+use Rattle.wire.specs.declared.ids.BusId.{BusId}
+use Rattle.wire.specs.declared.ids.Parts.{Parts}
+use Rattle.wire.specs.Identifiers.{maxBusId, streamOf, codeOf, split}
 use Rattle.wire.specs.Delivered.{over}
 use Rattle.node.specs.declared.slots.Slot.{Slot}
 use Rattle.node.specs.declared.Node.{Node}
@@ -40,35 +42,47 @@ module _ (output : List ℕ) (n : Node) where
   unfolding nextFrame
   short-output h = answers (refused n ShortOutput) (rw (lt-ltb (length output) nextRoom h))
 
-  module _ (room : nextRoom ≤ length output) (id : ℕ) (low : id ≡ lowest (pendingIds (n .slots))) where
-    pub none-pending : maxBusId < id → Answers (given (refused n Nothing)) output
-    unfolding nextFrame
-    none-pending h = answers (refused n Nothing) (rw (le-ltb (length output) nextRoom room, ← low, lt-ltb maxBusId id h))
+  module _ (room : nextRoom ≤ length output) (id : BusId) (low : id ≡ record { 0 = lowest (pendingIds (n .slots)) }) where
+    number : id .0 ≡ lowest (pendingIds (n .slots))
+    number = ap (λ (k : BusId). k .0) low
 
-    module _ (in-range : id ≤ maxBusId) (i : ℕ) (found : i ≡ indexOf (isOf (streamOf (record { 0 = id }))) (n .slots)) where
+    pub none-pending : maxBusId < id .0 → Answers (given (refused n Nothing)) output
+    unfolding nextFrame
+    none-pending h = answers (refused n Nothing) (rw (le-ltb (length output) nextRoom room, ← number, lt-ltb maxBusId (id .0) h))
+
+    module _ (in-range : id .0 ≤ maxBusId) (parts : Parts) (apart : parts ≡ split id) (i : ℕ)
+        (at-index : i ≡ indexOf (isOf (parts .stream)) (n .slots)) where
+      in-parts : parts ≡ record { reply = Done; stream = streamOf id; code = codeOf id }
+      unfolding split
+      in-parts = rw (apart, le-leb (id .0) maxBusId in-range)
+
+      of-stream : i ≡ indexOf (isOf (streamOf id)) (n .slots)
+      of-stream = rw in-parts at at-index
+
       pub frame-has-slot : i < length (n .slots)
       frame-has-slot =
-          let pending = lowest-is-one (pendingIds (n .slots)) (omega arith) in
-          let there = rw (← low) at (pending-has-slot (n .slots) pending) in
-          rw found (some-found (isOf (streamOf (record { 0 = id }))) (n .slots) there)
+          let pending = lowest-is-one (pendingIds (n .slots)) (omega (arith, number)) in
+          let there = rw (← number) at (pending-has-slot (n .slots) pending) in
+          rw of-stream (some-found (isOf (streamOf id)) (n .slots) there)
 
-      frame : (d x : Slot) → x ≡ givenOut (id % 4) (getD (n .slots) i d)
+      frame : (d x : Slot) → x ≡ givenOut (codeOf id) (getD (n .slots) i d)
           → _≡_ {A = Outcome} (record {
             node = withSlots (set (n .slots) i x) n;
             reply = Done;
-            id = record { 0 = id };
-            bytes = payloadFor (id % 4) (getD (n .slots) i d);
+            id = id;
+            bytes = payloadFor (codeOf id) (getD (n .slots) i d);
           }) (nextFrame output n)
       unfolding nextFrame give
       frame d x made =
-          let s = streamOf (record { 0 = id }) in
-          let above = le-ltb maxBusId id in-range in
-          rw (le-ltb (length output) nextRoom room, ← low, above, ← slot-found n s i found d frame-has-slot, made)
-          (rw (slot-stored n s i found (givenOut (id % 4)) d frame-has-slot))
+          let found = slot-found n (streamOf id) i of-stream d frame-has-slot in
+          rw (le-ltb (length output) nextRoom room, ← number, le-ltb maxBusId (id .0) in-range, ← found, made)
+          (rw (slot-stored n (streamOf id) i of-stream (givenOut (codeOf id)) d frame-has-slot))
 
       pub frame-given : (d x : Slot) (len : ℕ) (written : List ℕ)
-          → x ≡ givenOut (id % 4) (getD (n .slots) i d)
-          → len ≡ length (payloadFor (id % 4) (getD (n .slots) i d))
-          → written ≡ over (payloadFor (id % 4) (getD (n .slots) i d)) output
-          → Answers (record { node = withSlots (set (n .slots) i x) n; reply = Done; id = record { 0 = id }; len = len }) written
-      frame-given d x len written made long copied = rw (long, copied) (answers _ (frame d x made))
+          → x ≡ givenOut (parts .code) (getD (n .slots) i d)
+          → len ≡ length (payloadFor (parts .code) (getD (n .slots) i d))
+          → written ≡ over (payloadFor (parts .code) (getD (n .slots) i d)) output
+          → Answers (record { node = withSlots (set (n .slots) i x) n; reply = Done; id = id; len = len }) written
+      frame-given d x len written made long copied =
+          let code : parts .code ≡ codeOf id = ap (λ (p : Parts). p .code) in-parts in
+          rw (long, copied, code) (answers _ (frame d x (rw code at made)))

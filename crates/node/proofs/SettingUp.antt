@@ -16,7 +16,7 @@ use Rattle.node.specs.Nodes.{hasSlot, withSlots, Outcome, refused, done,
 use Rattle.node.specs.SetUp.{slotFor, setUp}
 use Rattle.node.specs.Calls.{Call}
 use Rattle.node.proofs.Unbounded.{Promised, promised}
-use Rattle.node.proofs.Finding.{found-some, missed-some, found-change}
+use Rattle.node.proofs.Finding.{found, missed}
 
 module _ (s : Stream) (settings : Settings) (n : Node) where
   abbrev Answers : Outcome → Type 0
@@ -29,26 +29,26 @@ module _ (s : Stream) (settings : Settings) (n : Node) where
   unfolding setUp
   bad-settings bad = answers (refused n BadSettings) (rw bad)
 
-  module _ (good : legal s settings ≡ true) (i : ℕ) (found : i ≡ indexOf (isOf s) (n .slots)) where
+  module _ (good : legal s settings ≡ true) (i : ℕ) (at-index : i ≡ indexOf (isOf s) (n .slots)) where
     pub stream-taken : i < length (n .slots) → Answers (refused n Taken)
     unfolding setUp
     stream-taken inside =
-        let there : hasSlot s n ≡ true = found-some (isOf s) (n .slots) (omega arith) in
+        let there : hasSlot s n ≡ true = found (isOf s) (n .slots) (omega arith) .there in
         answers (refused n Taken) (rw (good, there))
 
-    module _ (missed : length (n .slots) ≤ i) (j : ℕ) (free : j ≡ indexOf isFree (n .slots)) where
+    module _ (past : length (n .slots) ≤ i) (j : ℕ) (free : j ≡ indexOf isFree (n .slots)) where
       new : hasSlot s n ≡ false
-      new = missed-some (isOf s) (n .slots) (omega arith)
+      new = missed (isOf s) (n .slots) (omega arith) .not-there
 
       pub table-full : length (n .slots) ≤ j → Answers (refused n TableFull)
       unfolding setUp
       table-full full =
-          let none : some isFree (n .slots) ≡ false = missed-some isFree (n .slots) (omega arith) in
+          let none : some isFree (n .slots) ≡ false = missed isFree (n .slots) (omega arith) .not-there in
           answers (refused n TableFull) (rw (good, new, none))
 
       pub stream-set : j < length (n .slots) → (x : Slot) → x ≡ slotFor s settings → Answers (done (withSlots (set (n .slots) j x) n) [])
       unfolding setUp
       stream-set inside x made =
-          let one : some isFree (n .slots) ≡ true = found-some isFree (n .slots) (omega arith) in
-          let stored = found-change isFree (λ y. slotFor s settings) (n .slots) empty (omega arith) in
+          let one : some isFree (n .slots) ≡ true = found isFree (n .slots) (omega arith) .there in
+          let stored = found isFree (n .slots) (omega arith) .changes (λ y. slotFor s settings) empty in
           answers (done (withSlots (set (n .slots) j x) n) []) (rw (good, new, one, made, free) (rw stored))

@@ -15,7 +15,7 @@ ghost use Rattle.wire.specs.Frames.{maxPayload};
 ghost use Rattle.wire.specs.Delivered.{over};
 ghost use Rattle.node.specs.Slots.{payloadOf};
 ghost use Rattle.node.specs.Nodes.{given};
-ghost use Rattle.node.specs.NextFrame.{pendingIn, pendingIds, lowest, givenOut, payloadFor, nextFrame};
+ghost use Rattle.node.specs.NextFrame.{pendingCodes, pendingIn, pendingIds, lowest, givenOut, payloadFor, nextFrame};
 ghost use Rattle.node.specs.Clock.{rolled, unbounded};
 ghost use Rattle.node.specs.Calls.{Call, after, rollOutcome};
 
@@ -23,31 +23,43 @@ ghost use Rattle.node.specs.Calls.{Call, after, rollOutcome};
 const NONE: u32 = BusId::MAX + 1;
 
 impl Slot {
-    // The lowest bus identifier of the slot's pending frames.
-    pub fn lowest_pending(self) -> u32
-        ensures { λ r. ⌜ r ≡ lowest (pendingIn self) ⌝ }
+    // The lowest code of the slot's pending frames.
+    pub fn lowest_code(self) -> u32
+        ensures { λ r. ⌜ r ≡ lowest (pendingCodes self) ⌝ }
     {
-        let stream = self.stream.0;
-        if stream > Stream::MAX {
-            return NONE;
-        }
-        if !self.used {
-            return NONE;
-        }
         let plain = self.settings.class == Settings::PLAIN;
         if self.pending.payload & !plain {
-            return stream * 4;
+            return 0;
         }
         if self.pending.confirmation {
-            return stream * 4 + 1;
+            return 1;
         }
         if self.pending.abort {
-            return stream * 4 + 2;
+            return 2;
         }
         if self.pending.payload {
-            return stream * 4 + 3;
+            return 3;
         }
         NONE
+    }
+
+    // The lowest bus identifier of the slot's pending frames.
+    pub fn lowest_pending(self) -> BusId
+        ensures { λ r. ⌜ r ≡ record { 0 = lowest (pendingIn self) } ⌝ }
+    {
+        let code = self.lowest_code();
+        if code > 3 {
+            return BusId(NONE);
+        }
+        if !self.used {
+            return BusId(NONE);
+        }
+        let stream = self.stream;
+        if stream.0 > Stream::MAX {
+            return BusId(NONE);
+        }
+        let joined = stream.join(code);
+        joined.id
     }
 
     // The slot once its frame with this code is given out.
@@ -100,17 +112,18 @@ fn lower(a: u32, b: u32) -> u32
 
 impl Node {
     // The lowest bus identifier of all pending frames.
-    pub fn lowest_pending(self) -> u32
-        ensures { λ r. ⌜ r ≡ lowest (pendingIds (self .slots)) ⌝ }
+    pub fn lowest_pending(self) -> BusId
+        ensures { λ r. ⌜ r ≡ record { 0 = lowest (pendingIds (self .slots)) } ⌝ }
     {
-        let mut id: u32 = NONE;
+        let mut low: u32 = NONE;
         let mut i: usize = 32;
         while i > 0 {
             i -= 1;
             let s = self.slots[i];
-            id = lower(s.lowest_pending(), id);
+            let id = s.lowest_pending();
+            low = lower(id.0, low);
         }
-        id
+        BusId(low)
     }
 
     // Gives out the pending frame with the lowest bus identifier; it is pending no longer.
@@ -126,8 +139,8 @@ impl Node {
                 len: 0,
             };
         }
-        let n = self.lowest_pending();
-        if n > BusId::MAX {
+        let id = self.lowest_pending();
+        if id.0 > BusId::MAX {
             return Given {
                 node: self,
                 reply: Reply::Nothing,
@@ -135,8 +148,9 @@ impl Node {
                 len: 0,
             };
         }
-        let code = n % 4;
-        let i = self.find(Stream(n / 4));
+        let parts = id.split();
+        let code = parts.code;
+        let i = self.find(parts.stream);
         let s = self.slots[i];
         let len = give_payload(out, s, code);
         let t = s.given_out(code);
@@ -144,7 +158,7 @@ impl Node {
         Given {
             node: self,
             reply: Reply::Done,
-            id: BusId(n),
+            id: id,
             len: len,
         }
     }

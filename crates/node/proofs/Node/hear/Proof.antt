@@ -19,8 +19,9 @@ use Rattle.node.specs.Slots.{nonePending, isOf, isReceiver, indexOf}
 use Rattle.node.specs.Nodes.{delivered}
 use Rattle.node.specs.Hear.{hearRoom, deliveredAtOnce}
 use Rattle.node.specs.Calls.{Call}
+use Rattle.wire.proofs.Frames.{frame-length}
 use Rattle.node.proofs.Finding.{length-of-mapped}
-use Rattle.node.proofs.Heard.{frame-splits, frame-is-short, short-output, bad-frame, no-slot, not-mine, misfit, clash, heard}
+use Rattle.node.proofs.Heard.{frame-splits, short-output, bad-frame, no-slot, not-mine, misfit, clash, heard}
 use Rattle.node.proofs.Unbounded.{promised-both}
 use Rattle.node.proofs.Node.hear.Statement.{statement}
 use Rattle.node.proofs.Node.hear.Tie as tie
@@ -71,7 +72,7 @@ module _ (c : tie.Else2) where
   good = sym (c .before .bad-frame .ensures) ∙ c .if2 .left
 
   small : length (payload (start-2 c)) ≤ maxPayload
-  small = frame-is-short (start-2 c .args .id) (start-2 c .args .dlc) (length (payload (start-2 c))) good
+  small = frame-length (start-2 c .args .id) (start-2 c .args .dlc) (length (payload (start-2 c))) good
 
 split-requires : tie.Need-split-requires
 split-requires c κs = search needs

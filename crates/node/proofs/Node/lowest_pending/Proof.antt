@@ -1,4 +1,4 @@
--- `Node::lowest_pending` meets its contract: when the loop has come down to i, `id` is the lowest of what is pending from
+-- `Node::lowest_pending` meets its contract: when the loop has come down to i, `low` is the lowest of what is pending from
 -- i on.
 use borrow.Author.Needs.{needs}
 use native.Mathlib.Omega.{arith}
@@ -12,10 +12,10 @@ use Rattle.node.proofs.Node.lowest_pending.Statement.{statement}
 use Rattle.node.proofs.Node.lowest_pending.Tie as tie
 
 abbrev Inv-loop : tie.InvT-loop
-Inv-loop self id₀ i₀ id i = (i ≤ 32) × (id ≡ lowest (pendingIds (drop i (self .slots))))
+Inv-loop self low₀ i₀ low i = (i ≤ 32) × (low ≡ lowest (pendingIds (drop i (self .slots))))
 
 abbrev μ-loop : tie.MeasureT-loop
-μ-loop self id₀ i₀ id i = i
+μ-loop self low₀ i₀ low i = i
 
 -- the table has 32 slots
 long : (c : tie.Start Inv-loop μ-loop) → length (c .args .t1 .slots) ≡ 32
@@ -56,7 +56,8 @@ loop-again c =
 returns : tie.Need-returns Inv-loop μ-loop
 returns c =
     let front : c .before .loop .i ≡ 0 = omega arith in
-    c .before .loop .inv .1 ∙ rw front
+    let low = c .before .loop .inv .1 in
+    rw (low, front)
 
 pub lowest-pending-spec : {M : Type 1} → statement M
 lowest-pending-spec =

@@ -21,9 +21,12 @@ lowest-pending-requires c κs = search needs
 
 returns-2 : tie.Need-returns-2
 returns-2 c =
-    let l = c .before in
+    let l = c .before .before in
     let a = l .before .before .before .args in
     none-pending (now (a .out)) (a .t1) (l .before .if1 .left) _ (l .lowest-pending .ensures) (c .if2 .taken)
+
+split-requires : tie.Need-split-requires
+split-requires c κs = search needs
 
 find-requires : tie.Need-find-requires
 find-requires c κs = search needs
@@ -35,11 +38,13 @@ long c = search (needs, length-of-mapped)
 -- the stream of the lowest identifier has a slot
 found : (c : tie.After-find) → c .find .result < 32
 found c =
-    let l = c .before .before in
+    let t = c .before .before in
+    let l = t .before .before in
     let start = l .before .before .before in
     let a = start .args in
     rw (← long start)
-    (frame-has-slot (now (a .out)) (a .t1) (l .before .if1 .left) _ (l .lowest-pending .ensures) (c .before .if2 .left) _ (c .find .ensures))
+    (frame-has-slot (now (a .out)) (a .t1) (l .before .if1 .left) _ (l .lowest-pending .ensures) (t .if2 .left)
+    _ (c .before .split .ensures) _ (c .find .ensures))
 
 mul-s : tie.Need-mul-s
 mul-s c = omega (arith, found c)
@@ -66,9 +71,11 @@ returns-3 : tie.Need-returns-3
 returns-3 c =
     let g = c .before .before .before in
     let f = g .before .before .before in
-    let l = f .before .before in
+    let t = f .before .before in
+    let l = t .before .before in
     let a = l .before .before .before .args in
-    frame-given (now (a .out)) (a .t1) (l .before .if1 .left) _ (l .lowest-pending .ensures) (f .before .if2 .left) _ (f .find .ensures) _ _ _ _
+    frame-given (now (a .out)) (a .t1) (l .before .if1 .left) _ (l .lowest-pending .ensures) (t .if2 .left)
+    _ (f .before .split .ensures) _ (f .find .ensures) _ _ _ _
     (c .given-out .ensures) (g .give-payload .ensures .0) (g .give-payload .ensures .1)
 
 pub next-frame-spec : {M : Type 1} → statement M
@@ -78,6 +85,7 @@ next-frame-spec =
     returns
     lowest-pending-requires
     returns-2
+    split-requires
     find-requires
     mul-s
     element-copy-out-s

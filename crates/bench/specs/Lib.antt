@@ -1,0 +1,6 @@
+pub mod Lists
+pub mod Bench
+pub mod SetUp
+pub mod Events
+pub mod Rules
+pub mod Demands

@@ -1,0 +1,1 @@
+// The bench: several modules on a modelled bus.

@@ -1,0 +1,16 @@
+pub mod Truth
+pub mod Sendings
+pub mod Frames
+pub mod Classes
+pub mod Events
+pub mod Histories
+pub mod Twice
+pub mod Books
+pub mod Chain
+pub mod Same
+pub mod View
+pub mod TwoM
+pub mod TwoMWhy
+pub mod TwoMSteps
+pub mod TwoMEnd
+pub mod TwoMDemand

@@ -1,0 +1,30 @@
+-- `Slot::lowest_code` meets its contract: the frames are tried by ascending code, and each return rewrites with the tests
+-- that led there.
+use mathlib.Core.Path.{sym, _∙_}
+use Rattle.node.proofs.Lowest.{lowest-code}
+use Rattle.node.proofs.slots.Slot.lowest_code.Statement.{statement}
+use Rattle.node.proofs.slots.Slot.lowest_code.Tie as tie
+
+returns : tie.Need-returns
+returns c = sym (lowest-code (c .before .before .before .args .self) ∙ rw (c .if1 .taken))
+
+returns-2 : tie.Need-returns-2
+returns-2 c = sym (lowest-code (c .before .before .before .before .args .self) ∙ rw (c .before .if1 .left, c .if2 .taken))
+
+returns-3 : tie.Need-returns-3
+returns-3 c =
+    sym (lowest-code (c .before .before .before .before .before .args .self)
+    ∙ rw (c .before .before .if1 .left, c .before .if2 .left, c .if3 .taken))
+
+returns-4 : tie.Need-returns-4
+returns-4 c =
+    sym (lowest-code (c .before .before .before .before .before .before .args .self)
+    ∙ rw (c .before .before .before .if1 .left, c .before .before .if2 .left, c .before .if3 .left, c .if4 .taken))
+
+returns-5 : tie.Need-returns-5
+returns-5 c =
+    sym (lowest-code (c .before .before .before .before .before .before .args .self)
+    ∙ rw (c .before .before .before .if1 .left, c .before .before .if2 .left, c .before .if3 .left, c .if4 .left))
+
+pub lowest-code-spec : {M : Type 1} → statement M
+lowest-code-spec = tie.close (tie.spec returns returns-2 returns-3 returns-4 returns-5)
