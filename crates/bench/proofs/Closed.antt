@@ -34,10 +34,10 @@ use Rattle.bench.proofs.Open.{logsOf}
 use Rattle.bench.proofs.Phases.{asked, opened, else-books, Opens, opens?, may-send, sends-elsewhere, track-step, Phase}
 use Rattle.bench.proofs.Judge.{live-back, count-step}
 use Rattle.bench.proofs.Demand.{run-append, Known, known-rest, judged-bench, judged-known, demand3}
-use Rattle.line.proofs.Sendings as LS
-use Rattle.line.proofs.Classes as LC
+use Rattle.line.specs.Sendings as LS
+use Rattle.line.specs.Classes as LC
 use Rattle.line.proofs.Histories as LH
-use Rattle.line.proofs.TwoM as LM
+use Rattle.line.specs.TwoM as LM
 
 -- giving out changes no omission
 given-omits : (o : Outcome) (w : Which) (k : Book) → omissions (onFrame w (gaveOut o) k) ≡ omissions k

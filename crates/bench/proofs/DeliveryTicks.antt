@@ -39,9 +39,9 @@ use Rattle.bench.proofs.Track.{Track}
 use Rattle.bench.proofs.Phases.{else-books, sends-elsewhere, Opens, track-step}
 use Rattle.bench.proofs.Judge.{live-back, count-step}
 use Rattle.bench.proofs.LogOrder.{heard-plain}
-use Rattle.line.proofs.Sendings as LS
-use Rattle.line.proofs.Classes as LC
-use Rattle.line.proofs.TwoM as LM
+use Rattle.line.specs.Sendings as LS
+use Rattle.line.specs.Classes as LC
+use Rattle.line.specs.TwoM as LM
 
 -- ── what a log gains of a stream it gains at a live receiver ──
 log-step : (s : Stream) (b : Bench) (e : Event) (i : ℕ) → Kept (moduleAt i b .node)

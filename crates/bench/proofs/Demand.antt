@@ -20,8 +20,8 @@ use Rattle.bench.proofs.Follow.{Valid, valid-step}
 use Rattle.bench.proofs.Track.{Track, track-tick}
 use Rattle.bench.proofs.Open.{logsOf}
 use Rattle.bench.proofs.Judge.{live-back, count-step, count-run, window, judged-all-or-none, judged-all-if-full}
-use Rattle.line.proofs.Sendings as LS
-use Rattle.line.proofs.TwoM as LM
+use Rattle.line.specs.Sendings as LS
+use Rattle.line.specs.TwoM as LM
 
 -- ── histories ──
 pub run-append : (xs ys : List Event) (b : Bench) → run b (xs ++ ys) ≡ run (run b xs) ys

@@ -40,11 +40,11 @@ use Rattle.bench.proofs.View.{toSent, toFrame, toDelays, notes, heldIn,
 use Rattle.bench.proofs.View.{heard-conf, heard-abort, ticked-looks, ticked-log}
 use Rattle.bench.proofs.Line.{New, data-view, conf-view, abort-view, tick-view, row-enter, view-entered, heard-looks, heard-live}
 use Rattle.bench.proofs.Line.{heard-log}
-use Rattle.line.proofs.Sendings as LS
-use Rattle.line.proofs.Frames as LF
-use Rattle.line.proofs.Classes as LC
+use Rattle.line.specs.Sendings as LS
+use Rattle.line.specs.Frames as LF
+use Rattle.line.specs.Classes as LC
 use Rattle.line.proofs.Histories as LH
-use Rattle.line.proofs.TwoM as LM
+use Rattle.line.specs.TwoM as LM
 use Rattle.wire.specs.Settings as wire
 
 -- ── a stream of the bench ──

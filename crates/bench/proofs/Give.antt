@@ -32,11 +32,11 @@ use Rattle.bench.proofs.View.{toFrame}
 use Rattle.bench.proofs.Follow.{Valid, lineOf, give-own-line, give-abort-line}
 use Rattle.bench.proofs.Track.{Sender, Track, send-back, own-moved, own-on-frame}
 use Rattle.wire.specs.Settings as wire
-use Rattle.line.proofs.Sendings as LS
-use Rattle.line.proofs.Frames as LF
-use Rattle.line.proofs.Classes as LC
+use Rattle.line.specs.Sendings as LS
+use Rattle.line.specs.Frames as LF
+use Rattle.line.specs.Classes as LC
 use Rattle.line.proofs.Histories as LH
-use Rattle.line.proofs.TwoM as LM
+use Rattle.line.specs.TwoM as LM
 use Rattle.bench.proofs.Laws as Laws
 
 module _ (D : LS.Delays) (fit : LM.Fit D) (s : Stream) (me : ℕ) (since : Moment) (p : List ℕ) (base : ℕ → List LC.Note) (b : Bench)

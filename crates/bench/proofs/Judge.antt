@@ -30,10 +30,10 @@ use Rattle.bench.proofs.Read.{full-was}
 use Rattle.bench.proofs.Track.{Track}
 use Rattle.bench.proofs.Open.{logsOf, me-lives, sender-free}
 use Rattle.bench.proofs.Phases.{Opens, track-step}
-use Rattle.line.proofs.Sendings as LS
-use Rattle.line.proofs.Classes as LC
+use Rattle.line.specs.Sendings as LS
+use Rattle.line.specs.Classes as LC
 use Rattle.line.proofs.Histories as LH
-use Rattle.line.proofs.TwoM as LM
+use Rattle.line.specs.TwoM as LM
 
 -- ── counting ticks ──
 pub live-back : (b : Bench) (e : Event) (i : ℕ) → T (isLive i (step b e)) → T (isLive i b)

@@ -31,3 +31,4 @@ pub mod DeliveryTicks
 pub mod Requests
 pub mod SameOrder
 pub mod NotEmpty
+pub mod Dummies

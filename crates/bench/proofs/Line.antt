@@ -16,10 +16,10 @@ use Rattle.bench.specs.Lists.{nth, at}
 use Rattle.bench.proofs.Laws.{hearing, hear-bytes}
 use Rattle.bench.proofs.Modules.{hearsFrame, asFunction}
 use Rattle.bench.proofs.View.{toSent, toFrame, notes, heldIn, viewOf, view, Looks, looks, view-looks}
-use Rattle.line.proofs.Sendings as LS
-use Rattle.line.proofs.Frames as LF
-use Rattle.line.proofs.Classes as LC
-use Rattle.line.proofs.TwoM as LM
+use Rattle.line.specs.Sendings as LS
+use Rattle.line.specs.Frames as LF
+use Rattle.line.specs.Classes as LC
+use Rattle.line.specs.TwoM as LM
 
 module _ (D : LS.Delays) where
   abbrev pub C : LC.Class

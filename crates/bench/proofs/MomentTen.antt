@@ -55,7 +55,7 @@ pub both-deliver : Shows three full-confirmation ([] âˆ· (got 17 five message âˆ
 unfolding computing
 both-deliver = record { set-up = refl; keeps-rules = refl; delivers = refl }
 
-pub full-judged : Judged (start three) full-confirmation
+unfoldable pub full-judged : Judged (start three) full-confirmation
 unfolding computing
 full-judged =
     record {

@@ -28,10 +28,10 @@ use Rattle.bench.proofs.Follow.{Valid, receiversOf, lineOf}
 use Rattle.bench.proofs.Turns.{asks-me, asks-short, asks-free, asked-slot, no-rows, open-line}
 use Rattle.bench.proofs.Read.{maySend, legal-data, legal-conf, legal-abort}
 use Rattle.bench.proofs.Track.{Content, Sender, Track, send-back}
-use Rattle.line.proofs.Sendings as LS
-use Rattle.line.proofs.Classes as LC
+use Rattle.line.specs.Sendings as LS
+use Rattle.line.specs.Classes as LC
 use Rattle.line.proofs.Histories as LH
-use Rattle.line.proofs.TwoM as LM
+use Rattle.line.specs.TwoM as LM
 
 -- what each module has delivered of the stream
 abbrev pub logsOf : Stream → Bench → ℕ → List LC.Note

@@ -33,10 +33,10 @@ use Rattle.bench.proofs.Read.{maySend, was-given}
 use Rattle.bench.proofs.Track.{Track, track-else, track-send, track-death, track-tick}
 use Rattle.bench.proofs.Give.{track-give}
 use Rattle.bench.proofs.Open.{logsOf, open-track, next-track}
-use Rattle.line.proofs.Sendings as LS
-use Rattle.line.proofs.Classes as LC
+use Rattle.line.specs.Sendings as LS
+use Rattle.line.specs.Classes as LC
 use Rattle.line.proofs.Histories as LH
-use Rattle.line.proofs.TwoM as LM
+use Rattle.line.specs.TwoM as LM
 use Rattle.bench.proofs.Laws as Laws
 
 -- ── events of other streams ──

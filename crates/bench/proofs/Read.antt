@@ -19,10 +19,10 @@ use Rattle.bench.proofs.Laws.{same-stream}
 use Rattle.bench.proofs.Modules.{countOf, asFunction, count-is}
 use Rattle.bench.proofs.View.{toSent, toFrame, toDelays, view}
 use Rattle.bench.proofs.Follow.{TwoMessage, Valid, lineOf, lives, moves}
-use Rattle.line.proofs.Sendings as LS
-use Rattle.line.proofs.Frames as LF
-use Rattle.line.proofs.Classes as LC
-use Rattle.line.proofs.TwoM as LM
+use Rattle.line.specs.Sendings as LS
+use Rattle.line.specs.Frames as LF
+use Rattle.line.specs.Classes as LC
+use Rattle.line.specs.TwoM as LM
 
 -- ── moments and sendings ──
 pub within-all : (R : ℕ) (from to : Moment) → T (within R from to) → (i : ℕ) → asFunction to i ≤ asFunction from i + R

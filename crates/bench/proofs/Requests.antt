@@ -26,8 +26,8 @@ use Rattle.bench.proofs.Track.{Track}
 use Rattle.bench.proofs.Open.{logsOf}
 use Rattle.bench.proofs.Phases.{silent, opened, any-run}
 use Rattle.bench.proofs.Settled.{start-kept, start-silent, planned, start-fits, start-valid}
-use Rattle.line.proofs.Sendings as LS
-use Rattle.line.proofs.TwoM as LM
+use Rattle.line.specs.Sendings as LS
+use Rattle.line.specs.TwoM as LM
 
 -- what set up gave a slot stays
 kind-run : (s : Stream) (h : List Event) (b : Bench) → ((i : ℕ) → Kept (moduleAt i b .node)) → (i : ℕ) → kindOf (slotAt s i (run b h)) ≡ kindOf (slotAt s i b)

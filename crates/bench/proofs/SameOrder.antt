@@ -34,8 +34,8 @@ use Rattle.bench.proofs.AtStart.{count-at-start}
 use Rattle.bench.proofs.Requests.{Requested, requested}
 use Rattle.bench.proofs.LogOrder.{Earlier, receivesPlain, timedAt, in-order, log-order, earlier-before}
 use Rattle.bench.proofs.DeliveryTicks.{dataOf, Told, not-yet, told, Timed, timed-run}
-use Rattle.line.proofs.Sendings as LS
-use Rattle.line.proofs.Classes as LC
+use Rattle.line.specs.Sendings as LS
+use Rattle.line.specs.Classes as LC
 
 -- ── what was delivered stays in the log ──
 has-onto : (d : Delivery) (ds log : List Delivery) → Has d log → Has d (onto ds log)

@@ -39,8 +39,8 @@ use Rattle.bench.proofs.Follow.{Valid, not-both}
 use Rattle.bench.proofs.Phases.{Quiet, NoBook}
 use Rattle.node.specs.SetUp as SetUp
 use Rattle.wire.specs.Settings as wire
-use Rattle.line.proofs.Sendings as LS
-use Rattle.line.proofs.TwoM as LM
+use Rattle.line.specs.Sendings as LS
+use Rattle.line.specs.TwoM as LM
 
 -- ── setting up a stream ──
 -- the first slot of a stream, where a free slot was taken for one

@@ -43,10 +43,11 @@ use Rattle.bench.proofs.Line.{row-enter, length-enter}
 use Rattle.bench.proofs.Follow.{Valid, not-both, lineOf, lives, tick-line, bookAfter, books-after, data-line, conf-line, abort-line}
 use Rattle.bench.proofs.Turns.{dead-node, die-other-line, die-own-line, else-line}
 use Rattle.bench.proofs.Read.{maySend, was-given, legal-data, legal-conf, legal-abort, legal-tick}
-use Rattle.line.proofs.Sendings as LS
-use Rattle.line.proofs.Classes as LC
+use Rattle.line.proofs.Sendings.{move-reached}
+use Rattle.line.specs.Sendings as LS
+use Rattle.line.specs.Classes as LC
 use Rattle.line.proofs.Histories as LH
-use Rattle.line.proofs.TwoM as LM
+use Rattle.line.specs.TwoM as LM
 
 -- ── the record ──
 -- what a frame with this code carries, once it was given out
@@ -437,7 +438,7 @@ module _ (D : LS.Delays) (fit : LM.Fit D) (s : Stream) (me : ℕ) (since : Momen
               let rd = ap (λ (d : LS.Delays). d .rd) n in
               let dd = ap (λ (d : LS.Delays). d .dd) n in
               let drift = ap (λ (d : LS.Delays). d .e) n in
-              let now = LS.move-reached (isLive me b) (countOf b me) (so live) in
+              let now = move-reached (isLive me b) (countOf b me) (so live) in
               let asked = ap (λ t. asFunction t me) (x .own .asked) in
               let long : D .rd + D .dd + D .e ≡ y₀ .settings .rd + y₀ .settings .dd = omega (arith, rd, dd, drift) in
               let aged : T (y₀ .message .held) → LS.move (lives D s me p b) (countOf b) me - asFunction (x .k .payloadFrame .since) me ≡ age =

@@ -24,10 +24,10 @@ use Rattle.bench.proofs.Modules.{module-step, Elsewhere, untouched-step
 use Rattle.bench.proofs.View.{toSent, notes, heldIn, viewOf, view, Looks, looks, view-looks}
 use Rattle.bench.proofs.Follow.{Valid, not-both, receiversOf, made, lineOf, made-path}
 use Rattle.wire.specs.Settings as wire
-use Rattle.line.proofs.Sendings as LS
-use Rattle.line.proofs.Classes as LC
+use Rattle.line.specs.Sendings as LS
+use Rattle.line.specs.Classes as LC
 use Rattle.line.proofs.Histories as LH
-use Rattle.line.proofs.TwoM as LM
+use Rattle.line.specs.TwoM as LM
 
 module _ (D : LS.Delays) (s : Stream) (me : ℕ) (p : List ℕ) (b : Bench) where
   -- ── a death ──

@@ -30,10 +30,10 @@ use Rattle.bench.specs.Events.{onto, deliveries}
 use Rattle.bench.specs.Lists.{at}
 use Rattle.bench.proofs.Laws.{same-stream, slot-kept, hearing, hear-own, ticking, tick-slot, onStream, deliveryOf, tick-delivers}
 use Rattle.bench.proofs.Modules.{asFunction}
-use Rattle.line.proofs.Sendings as LS
-use Rattle.line.proofs.Frames as LF
-use Rattle.line.proofs.Classes as LC
-use Rattle.line.proofs.TwoM as LM
+use Rattle.line.specs.Sendings as LS
+use Rattle.line.specs.Frames as LF
+use Rattle.line.specs.Classes as LC
+use Rattle.line.specs.TwoM as LM
 
 -- ── sendings and frames ──
 unfoldable pub toSent : Sendings → LS.Sent

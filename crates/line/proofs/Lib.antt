@@ -1,7 +1,6 @@
 pub mod Truth
 pub mod Sendings
 pub mod Frames
-pub mod Classes
 pub mod Events
 pub mod Histories
 pub mod Twice
@@ -9,7 +8,6 @@ pub mod Books
 pub mod Chain
 pub mod Same
 pub mod View
-pub mod TwoM
 pub mod TwoMWhy
 pub mod TwoMSteps
 pub mod TwoMEnd

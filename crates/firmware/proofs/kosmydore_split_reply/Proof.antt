@@ -1,5 +1,8 @@
 -- `kosmydore_split_reply` meets its contract: it splits, and numbers the reply.
 use borrow.Author.Needs.{needs}
+use mathlib.Core.Path.{ap, _∙_}
+use Rattle.wire.specs.declared.ids.Parts.{Parts}
+use Rattle.wire.specs.Replies.{numberOf}
 use Rattle.firmware.proofs.kosmydore_split_reply.Statement.{statement}
 use Rattle.firmware.proofs.kosmydore_split_reply.Tie as tie
 
@@ -10,7 +13,7 @@ number-requires : tie.Need-number-requires
 number-requires c κs = search needs
 
 returns : tie.Need-returns
-returns c = rw (c .number .ensures, c .before .split .ensures)
+returns c = c .number .ensures ∙ ap (λ (p : Parts). numberOf (p .reply)) (c .before .split .ensures)
 
 pub kosmydore-split-reply-spec : {M : Type 1} → statement M
 kosmydore-split-reply-spec = tie.close (tie.spec split-requires number-requires returns)

@@ -1,7 +1,8 @@
--- `Stream::join` meets its contract: each return rewrites with the tests that led there.
+-- `Stream::join` meets its contract: the tests that led to each return decide which answer is due.
 use borrow.Author.Needs.{needs}
+use native.Mathlib.Omega.{arith}
 use borrow.Author.Tests.{le-leb, lt-leb}
-use Rattle.wire.specs.Identifiers.{join}
+use Rattle.wire.specs.Identifiers.{maxStream, maxCode, join}
 use Rattle.wire.proofs.ids.Stream.join.Statement.{statement}
 use Rattle.wire.proofs.ids.Stream.join.Tie as tie
 
@@ -13,15 +14,19 @@ add-t8 c = search needs
 
 returns : tie.Need-returns
 unfolding join
-returns c = simp (le-leb _ _ (c .before .if1 .taken), le-leb _ _ (c .if2 .taken))
+returns c =
+    let a = c .before .before .args in
+    rw (le-leb (a .self .0) maxStream (omega arith), le-leb (a .code) maxCode (omega arith))
 
 returns-2 : tie.Need-returns-2
 unfolding join
-returns-2 c = simp (le-leb _ _ (c .before .if1 .taken), lt-leb _ _ (c .if2 .left))
+returns-2 c =
+    let a = c .before .before .args in
+    rw (le-leb (a .self .0) maxStream (omega arith), lt-leb (a .code) maxCode (omega arith))
 
 returns-3 : tie.Need-returns-3
 unfolding join
-returns-3 c = simp (lt-leb _ _ (c .if1 .left))
+returns-3 c = rw (lt-leb (c .before .args .self .0) maxStream (omega arith))
 
 pub join-spec : {M : Type 1} → statement M
 join-spec = tie.close (tie.spec mul-t7 add-t8 returns returns-2 returns-3)

@@ -1,0 +1,165 @@
+// A line is answered by what its first word names. What is no call stands here: the fresh node, many ticks, the tally.
+use crate::answers;
+use crate::answers::Answer;
+use crate::answers::State;
+use crate::calls;
+use crate::lent;
+use text::Buffer;
+use text::output;
+use text::words;
+
+enum Command {
+    Fresh,
+    SetUp,
+    Hear,
+    Tick,
+    Many,
+    Request,
+    Next,
+    Counts,
+    Unknown,
+}
+
+fn command_of(word: &[u8]) -> Command {
+    if words::is(word, b"tick") {
+        return Command::Tick;
+    }
+    if words::is(word, b"hear") {
+        return Command::Hear;
+    }
+    if words::is(word, b"next") {
+        return Command::Next;
+    }
+    if words::is(word, b"request") {
+        return Command::Request;
+    }
+    if words::is(word, b"ticks") {
+        return Command::Many;
+    }
+    if words::is(word, b"setup") {
+        return Command::SetUp;
+    }
+    if words::is(word, b"tally") {
+        return Command::Counts;
+    }
+    if words::is(word, b"node") {
+        return Command::Fresh;
+    }
+    Command::Unknown
+}
+
+// One line, and its newline.
+pub fn line(state: State, line: &[u8], out: &mut Buffer, to: usize) -> Answer {
+    let w = words::word_at(line, 0);
+    let start = w.start;
+    let end = w.end;
+    let command = command_of(&line[start..end]);
+    let answer = named(command, state, line, w.next, out, to);
+    answers::ended(answer, out)
+}
+
+fn named(
+    command: Command,
+    state: State,
+    line: &[u8],
+    at: usize,
+    out: &mut Buffer,
+    to: usize,
+) -> Answer {
+    match command {
+        Command::Fresh => fresh(state, line, at, out, to),
+        Command::SetUp => calls::setup(state, line, at, out, to),
+        Command::Hear => calls::hear(state, line, at, out, to),
+        Command::Tick => calls::tick(state, line, at, out, to),
+        Command::Many => ticks(state, line, at, out, to),
+        Command::Request => calls::request(state, line, at, out, to),
+        Command::Next => calls::next(state, line, at, out, to),
+        Command::Counts => tally(state, line, at, out, to),
+        Command::Unknown => answers::unread(state, out, to),
+    }
+}
+
+// node
+fn fresh(state: State, line: &[u8], at: usize, out: &mut Buffer, to: usize) -> Answer {
+    if words::done(line, at) {
+        let room = output::room(out, to);
+        return Answer {
+            state: State::new(),
+            to: output::put(out, room, b"node"),
+        };
+    }
+    answers::unread(state, out, to)
+}
+
+// ticks N
+fn ticks(state: State, line: &[u8], at: usize, out: &mut Buffer, to: usize) -> Answer {
+    let n = words::number_at(line, at, 65536);
+    if n.ok & words::done(line, n.next) {
+        let last = many(state, n.value, out, to);
+        let then = last.state;
+        return Answer {
+            state: then,
+            to: answers::put_number(out, last.to, then.node.counter as u64),
+        };
+    }
+    answers::unread(state, out, to)
+}
+
+fn many(state: State, n: u64, out: &mut Buffer, to: usize) -> Answer {
+    let mut answer = Answer { state, to };
+    let mut k: u64 = 0;
+    while k < n {
+        k += 1;
+        answer = one(answer, k, out);
+    }
+    answer
+}
+
+// The kth tick, with `K BYTES ` where it wrote something.
+fn one(before: Answer, k: u64, out: &mut Buffer) -> Answer {
+    let mut output = [0u8; 512];
+    let state = before.state;
+    let node = state.node;
+    let answer = node.tick(&mut output);
+    let reply = answer.reply;
+    Answer {
+        state: answers::after(answer.node, state.tally, reply),
+        to: put_tick(out, before.to, k, &output, answer.written),
+    }
+}
+
+fn put_tick(out: &mut Buffer, to: usize, k: u64, output: &[u8], written: usize) -> usize {
+    if written == 0 {
+        return to;
+    }
+    let start = answers::put_spaced(out, to, k);
+    let end = lent::put(out, start, output, written);
+    answers::put_byte(out, end, b' ')
+}
+
+// tally
+fn tally(state: State, line: &[u8], at: usize, out: &mut Buffer, to: usize) -> Answer {
+    if words::done(line, at) {
+        let counts = state.tally.counts;
+        return Answer {
+            state,
+            to: put_counts(out, to, &counts),
+        };
+    }
+    answers::unread(state, out, to)
+}
+
+fn put_counts(out: &mut Buffer, to: usize, counts: &[u32; 13]) -> usize {
+    let mut past = answers::put_number(out, to, wide(counts[0]));
+    let mut i = 1;
+    while i < 13 {
+        let at = answers::put_byte(out, past, b' ');
+        past = answers::put_number(out, at, wide(counts[i]));
+        i += 1;
+    }
+    past
+}
+
+fn wide(x: u32) -> u64 {
+    x as u64
+}

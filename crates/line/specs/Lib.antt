@@ -1,0 +1,4 @@
+pub mod Sendings
+pub mod Frames
+pub mod Classes
+pub mod TwoM

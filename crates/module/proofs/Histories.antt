@@ -1,0 +1,160 @@
+-- Over every history: the calls of a module answer what the definition says, and its tally is the count of the replies that were seen.
+use mathlib.Core.Path.{_≡_, refl, sym, ap, _∙_}
+use Prim.Native.Nat.{ℕ}
+use mathlib.Core.Bool.{Bool, true, false, cond, not}
+use mathlib.Core.List.{List, [], _∷_, _++_}
+use lib.ListN.{length, take, drop}
+use lib.Seq.{take-append-seam}
+use lib.Dec.{ltb}
+use Rattle.wire.specs.declared.ids.Stream.{Stream}
+use Rattle.wire.specs.declared.ids.BusId.{BusId}
+use Rattle.wire.specs.declared.settings.Settings.{Settings}
+use Rattle.wire.specs.declared.reply.Reply.{Reply}
+use Rattle.wire.specs.Settings.{legal}
+use Rattle.wire.specs.Frames.{maxPayload, badFrame}
+use Rattle.wire.specs.Identifiers.{streamOf, codeOf}
+use Rattle.wire.specs.Classes.{carries}
+use Rattle.wire.specs.Delivered.{over}
+use Rattle.node.specs.declared.Node.{Node}
+use Rattle.node.specs.declared.slots.Slot.{Slot}
+use Rattle.node.specs.Slots.{some, isFree, isReceiver, isSender}
+use Rattle.node.specs.Nodes.{Outcome, noId, fresh, hasSlot, slotOf}
+use Rattle.node.specs.Clock.{rolled, unbounded}
+use Rattle.node.specs.SetUp as set-up
+use Rattle.node.specs.Hear as hearing
+use Rattle.node.specs.Tick as ticking
+use Rattle.node.specs.Request as requesting
+use Rattle.node.specs.NextFrame as giving
+use Rattle.node.specs.Calls.{Call, setUp, hear, tick, request, nextFrame, outcome, afterFrom, after, Answer, answerOf, answersFrom, answers}
+use Rattle.node.proofs.Rolling.{same-answers}
+use Rattle.module.specs.declared.tally.Tally.{Tally}
+use Rattle.module.specs.Tallies.{none, countOf, tallied, talliedAll, occurrences, capped}
+use Rattle.module.specs.Histories.{Module, freshModule, moduleStep, moduleAfterFrom, moduleAfter, repliesIn}
+use Rattle.module.specs.Histories.{Returned, Left, Promised, nodeIn, seen, Run, start, next}
+use Rattle.module.proofs.Counts.{counts-replies}
+
+-- ── the definition of a module ──
+node-from : (m : Module) (calls : List Call) → moduleAfterFrom m calls .node ≡ afterFrom rolled (m .node) calls
+node-from m [] = refl
+node-from m (c ∷ cs) = node-from (moduleStep c m) cs
+
+tally-from : (m : Module) (calls : List Call) → moduleAfterFrom m calls .tally ≡ talliedAll (m .tally) (repliesIn (answersFrom rolled (m .node) calls))
+tally-from m [] = refl
+tally-from m (c ∷ cs) = tally-from (moduleStep c m) cs
+
+-- its node is the node after these calls
+pub module-node : (calls : List Call) → moduleAfter calls .node ≡ after rolled calls
+module-node calls = node-from freshModule calls
+
+-- each count is the number of such replies in the history
+pub module-counts : (calls : List Call) (r : Reply) → countOf r (moduleAfter calls .tally) ≡ capped (occurrences r (repliesIn (answers rolled calls)))
+module-counts calls r = ap (countOf r) (tally-from freshModule calls) ∙ counts-replies (repliesIn (answers rolled calls)) r
+
+-- and so with counts of ticks without bound
+pub module-counts-unbounded : (calls : List Call) (r : Reply)
+    → countOf r (moduleAfter calls .tally) ≡ capped (occurrences r (repliesIn (answers unbounded calls)))
+module-counts-unbounded calls r = module-counts calls r ∙ ap (λ (xs : List Answer). capped (occurrences r (repliesIn xs))) (same-answers calls)
+
+-- ── what a call that keeps its promise does ──
+-- the bytes that were written are at the front of what is left
+front : (bytes output : List ℕ) → take (length bytes) (over bytes output) ≡ bytes
+front bytes output = take-append-seam bytes (drop (length bytes) output)
+
+either : (P : Outcome → Type 0) (b : Bool) {x y : Outcome} → P x → P y → P (cond b x y)
+either P true p q = p
+either P false p q = q
+
+-- a call that gives out no frame has no identifier, and one that is lent no output writes nothing
+abbrev NoFrame : Outcome → Type 0
+NoFrame o = o .id ≡ noId
+
+abbrev Silent : Outcome → Type 0
+Silent o = (o .id ≡ noId) × (o .bytes ≡ [])
+
+set-up-silent : (s : Stream) (settings : Settings) (n : Node) → Silent (set-up.setUp s settings n)
+unfolding set-up.setUp
+set-up-silent s settings n =
+    either Silent (not (legal s settings)) (refl, refl)
+    (either Silent (hasSlot s n) (refl, refl) (either Silent (not (some isFree (n .slots))) (refl, refl) (refl, refl)))
+
+request-silent : (s : Stream) (payload : List ℕ) (n : Node) → Silent (requesting.request s payload n)
+unfolding requesting.request
+request-silent s payload n =
+    either Silent (ltb maxPayload (length payload)) (refl, refl)
+    (either Silent (not (isSender (slotOf s n))) (refl, refl) (either Silent (requesting.busy (slotOf s n)) (refl, refl) (refl, refl)))
+
+hear-at-no-frame : (x : Slot) (id : BusId) (payload : List ℕ) (n : Node) → NoFrame (hearing.hearAt x id payload n)
+unfolding hearing.hearAt
+hear-at-no-frame x id payload n =
+    either NoFrame (not (isReceiver x)) refl
+    (either NoFrame (not (carries (x .settings .class) (codeOf id))) refl (either NoFrame (hearing.clashes (codeOf id) payload x) refl refl))
+
+hear-no-frame : (id : BusId) (dlc : ℕ) (payload output : List ℕ) (n : Node) → NoFrame (hearing.hear id dlc payload output n)
+unfolding hearing.hear
+hear-no-frame id dlc payload output n =
+    either NoFrame (ltb (length output) hearing.hearRoom) refl
+    (either NoFrame (badFrame id dlc (length payload)) refl (hear-at-no-frame (slotOf (streamOf id) n) id payload n))
+
+tick-no-frame : (output : List ℕ) (n : Node) → NoFrame (ticking.tick rolled output n)
+unfolding ticking.tick
+tick-no-frame output n = either NoFrame (ltb (length output) ticking.tickRoom) refl refl
+
+-- an answer, by its parts
+answer-is : (o : Outcome) {id : BusId} {bytes : List ℕ} → o .id ≡ id → bytes ≡ o .bytes
+    → _≡_ {A = Answer} (record { reply = o .reply; id = id; bytes = bytes }) (answerOf o)
+answer-is o e f = rw (← e, f)
+
+-- what is seen of it is the definition's answer
+pub answers-so : (c : Call) (m : Module) (r : Returned c) (left : Left c) (t : Tally) → Promised c m r left t
+    → seen c r left ≡ answerOf (outcome rolled c (m .node))
+answers-so (setUp s settings) m r left t p =
+    let o = set-up.setUp s settings (m .node) in
+    let silent = set-up-silent s settings (m .node) in rw (p .0) (answer-is o (silent .0) (sym (silent .1)))
+answers-so (hear id dlc payload output) m r left t p =
+    let o = hearing.hear id dlc payload output (m .node) in
+    rw (p .0, p .1) (answer-is o (hear-no-frame id dlc payload output (m .node)) (front (o .bytes) output))
+answers-so (tick output) m r left t p =
+    let o = ticking.tick rolled output (m .node) in
+    rw (p .0, p .1) (answer-is o (tick-no-frame output (m .node)) (front (o .bytes) output))
+answers-so (request s payload) m r left t p =
+    let o = requesting.request s payload (m .node) in
+    let silent = request-silent s payload (m .node) in rw (p .0) (answer-is o (silent .0) (sym (silent .1)))
+answers-so (nextFrame output) m r left t p =
+    let o = giving.nextFrame output (m .node) in rw (p .0, p .1) (answer-is o refl (front (o .bytes) output))
+
+-- and it makes a step of the definition
+pub steps-so : (c : Call) (m : Module) (r : Returned c) (left : Left c) (t : Tally) → Promised c m r left t
+    → _≡_ {A = Module} (record { node = nodeIn c r; tally = t }) (moduleStep c m)
+steps-so (setUp s settings) m r left t p = rw (p .0, p .1)
+steps-so (hear id dlc payload output) m r left t p = rw (p .0, p .2)
+steps-so (tick output) m r left t p = rw (p .0, p .2)
+steps-so (request s payload) m r left t p = rw (p .0, p .1)
+steps-so (nextFrame output) m r left t p = rw (p .0, p .2)
+
+-- ── every run ──
+run-answers : {m end : Module} {calls : List Call} {xs : List Answer} → Run m calls xs end → xs ≡ answersFrom rolled (m .node) calls
+run-answers start = refl
+run-answers {m} (next {cs = cs} c r left t p rest) =
+    rw (answers-so c m r left t p)
+    (ap (λ (l : List Answer). answerOf (outcome rolled c (m .node)) ∷ l)
+    (run-answers rest ∙ ap (λ (n : Module). answersFrom rolled (n .node) cs) (steps-so c m r left t p)))
+
+run-end : {m end : Module} {calls : List Call} {xs : List Answer} → Run m calls xs end → end ≡ moduleAfterFrom m calls
+run-end start = refl
+run-end {m} (next {cs = cs} c r left t p rest) = run-end rest ∙ ap (λ (n : Module). moduleAfterFrom n cs) (steps-so c m r left t p)
+
+-- From the fresh node and the zero tally: what was seen is what the definition says, with ticks counted without bound; the node is
+-- the definition's; and each count is how often that reply was seen.
+pub record Faithful (calls : List Call) (xs : List Answer) (end : Module) : Type 0 where
+  pub answered : xs ≡ answers unbounded calls
+  pub node : end .node ≡ after rolled calls
+  pub counted : (r : Reply) → countOf r (end .tally) ≡ capped (occurrences r (repliesIn xs))
+
+pub every-history : {calls : List Call} {xs : List Answer} {end : Module} → Run freshModule calls xs end → Faithful calls xs end
+every-history {calls} {xs} {end} run =
+    let saw : xs ≡ answers rolled calls = run-answers run in
+    record {
+      answered = saw ∙ same-answers calls;
+      node = ap (λ (m : Module). m .node) (run-end run) ∙ module-node calls;
+      counted = λ r. ap (λ (m : Module). countOf r (m .tally)) (run-end run) ∙ (module-counts calls r ∙ ap (λ (l : List Answer). capped (occurrences r (repliesIn l))) (sym saw));
+    }

@@ -1,0 +1,4 @@
+pub mod Counts
+pub mod Counting
+pub mod Histories
+pub mod Unique

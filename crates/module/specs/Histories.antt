@@ -1,0 +1,104 @@
+-- A module over a whole history of calls: its node and its tally, what each of its calls promises, and a run of such calls.
+use mathlib.Core.Path.{_≡_}
+use Prim.Native.Nat.{ℕ}
+use mathlib.Core.List.{List, [], _∷_, map}
+use lib.ListN.{take}
+use Rattle.wire.specs.declared.reply.Reply.{Reply}
+use Rattle.wire.specs.Delivered.{over}
+use Rattle.node.specs.declared.Node.{Node}
+use Rattle.node.specs.declared.Answered.{Answered}
+use Rattle.node.specs.declared.Delivered.{Delivered}
+use Rattle.node.specs.declared.Given.{Given}
+use Rattle.node.specs.Nodes.{fresh, noId, answered, delivered, given}
+use Rattle.node.specs.Clock.{Clock, rolled}
+use Rattle.node.specs.SetUp as set-up
+use Rattle.node.specs.Hear as hearing
+use Rattle.node.specs.Tick as ticking
+use Rattle.node.specs.Request as requesting
+use Rattle.node.specs.NextFrame as giving
+use Rattle.node.specs.Calls.{Call, setUp, hear, tick, request, nextFrame, outcome, Answer, answers}
+use Rattle.module.specs.declared.tally.Tally.{Tally}
+use Rattle.module.specs.Tallies.{none, tallied}
+
+pub record Module : Type 0 where
+  pub node : Node
+  pub tally : Tally
+
+-- before any call
+abbrev pub freshModule : Module
+freshModule = record { node = fresh; tally = none }
+
+-- a call: the node's, with its reply counted, a refusal's too
+abbrev pub moduleStep : Call → Module → Module
+moduleStep c m =
+    record { node = outcome rolled c (m .node) .node; tally = tallied (m .tally) (outcome rolled c (m .node) .reply) }
+
+-- the module after some calls, the first of them first
+abbrev pub moduleAfterFrom : Module → List Call → Module
+moduleAfterFrom m [] = m
+moduleAfterFrom m (c ∷ cs) = moduleAfterFrom (moduleStep c m) cs
+
+abbrev pub moduleAfter : List Call → Module
+moduleAfter calls = moduleAfterFrom freshModule calls
+
+abbrev pub repliesIn : List Answer → List Reply
+repliesIn xs = map (λ a. a .reply) xs
+
+-- ── what the calls promise ──
+-- what a call returns
+abbrev pub Returned : Call → Type 0
+Returned (setUp s settings) = Answered
+Returned (hear id dlc payload output) = Delivered
+Returned (tick output) = Delivered
+Returned (request s payload) = Answered
+Returned (nextFrame output) = Given
+
+-- what it leaves in the lent output; set up and request are lent none
+abbrev pub Left : Call → Type 0
+Left (setUp s settings) = Unit {0}
+Left (hear id dlc payload output) = List ℕ
+Left (tick output) = List ℕ
+Left (request s payload) = Unit {0}
+Left (nextFrame output) = List ℕ
+
+-- the contract of each call, at a module: of what it returns, of the lent output and of the lent tally
+abbrev pub Promised : (c : Call) → Module → Returned c → Left c → Tally → Type 0
+Promised (setUp s settings) m r left t =
+    (r ≡ answered (set-up.setUp s settings (m .node))) × (t ≡ tallied (m .tally) (set-up.setUp s settings (m .node) .reply))
+Promised (hear id dlc payload output) m r left t =
+    (r ≡ delivered (hearing.hear id dlc payload output (m .node)))
+    × (left ≡ over (hearing.hear id dlc payload output (m .node) .bytes) output)
+    × (t ≡ tallied (m .tally) (hearing.hear id dlc payload output (m .node) .reply))
+Promised (tick output) m r left t =
+    (r ≡ delivered (ticking.tick rolled output (m .node)))
+    × (left ≡ over (ticking.tick rolled output (m .node) .bytes) output)
+    × (t ≡ tallied (m .tally) (ticking.tick rolled output (m .node) .reply))
+Promised (request s payload) m r left t =
+    (r ≡ answered (requesting.request s payload (m .node))) × (t ≡ tallied (m .tally) (requesting.request s payload (m .node) .reply))
+Promised (nextFrame output) m r left t =
+    (r ≡ given (giving.nextFrame output (m .node)))
+    × (left ≡ over (giving.nextFrame output (m .node) .bytes) output)
+    × (t ≡ tallied (m .tally) (giving.nextFrame output (m .node) .reply))
+
+-- ── what a caller has of a call ──
+abbrev pub nodeIn : (c : Call) → Returned c → Node
+nodeIn (setUp s settings) r = r .node
+nodeIn (hear id dlc payload output) r = r .node
+nodeIn (tick output) r = r .node
+nodeIn (request s payload) r = r .node
+nodeIn (nextFrame output) r = r .node
+
+-- its reply, its identifier, and the bytes that it says it wrote
+abbrev pub seen : (c : Call) → Returned c → Left c → Answer
+seen (setUp s settings) r left = record { reply = r .reply; id = noId; bytes = [] }
+seen (hear id dlc payload output) r left = record { reply = r .reply; id = noId; bytes = take (r .written) left }
+seen (tick output) r left = record { reply = r .reply; id = noId; bytes = take (r .written) left }
+seen (request s payload) r left = record { reply = r .reply; id = noId; bytes = [] }
+seen (nextFrame output) r left = record { reply = r .reply; id = r .id; bytes = take (r .len) left }
+
+-- From one module to another by some calls, each made with the node and the tally that the call before left, and what was seen
+-- of each. Of what the calls did nothing is known but that they kept their promises.
+pub data Run : Module → List Call → List Answer → Module → Type 0 where
+  start : {m : Module} → Run m [] [] m
+  next : {m end : Module} {cs : List Call} {xs : List Answer} (c : Call) (r : Returned c) (left : Left c) (t : Tally) → Promised c m r left t
+      → Run (record { node = nodeIn c r; tally = t }) cs xs end → Run m (c ∷ cs) (seen c r left ∷ xs) end

@@ -1,0 +1,97 @@
+-- Laws on lines of input: one for each way through `text::input::Input::next`, and those for the move and the read of `refill`.
+use Prim.Native.Nat.{ℕ, _+_, _-_, _<_, _≤_, min}
+use native.Mathlib.Numerals.{add-one}
+use native.Mathlib.Omega.{arith}
+use mathlib.Core.Path.{_≡_, sym, ap, _∙_}
+use mathlib.Core.Bool.{Bool, true, false, cond, _||_}
+use mathlib.Core.List.{List, _++_}
+use lib.Dec.{ltb, eqb}
+use lib.ListN.{length, take, drop, getD, set, length-drop}
+use lib.Seq.{take-suc, take-suc-set, take-at, take-add, take-take, length-take-le, drop-at, drop-set-lt, drop-drop, getD-drop}
+use borrow.Author.Tests.{lt-ltb, le-ltb}
+use Rattle.bytes.specs.Bytes.{indexOf, slice}
+use Rattle.text.specs.Buffer.{size}
+use Rattle.text.specs.Input.{stopOf, startOf, endOf, kindOf, stepOf, keptOf, Refilled}
+use Rattle.text.specs.declared.input.Input.{Input}
+use Rattle.text.specs.declared.input.Step.{Step}
+use Rattle.text.specs.declared.input.Kind.{Kind}
+use Rattle.text.specs.declared.input.Kind.the-variants.{More, End}
+
+-- what `next` finds first: the unread bytes of s are from..to, and the line at hand ends at index e
+pub record Found (s : List ℕ) (i : Input) (from to e : ℕ) : Type 0 where
+  pub stop : to ≡ min (i .to) size
+  pub start : from ≡ min (i .from) to
+  pub line : e ≡ from + indexOf 10 (slice from to s)
+
+-- the four ways on from there
+module _ {s : List ℕ} {i : Input} {from to e : ℕ} (f : Found s i from to e) where
+  newline : e < to → ltb (endOf s i) (stopOf i) ≡ true
+  newline h = rw (f .line, f .start, f .stop) at (lt-ltb _ _ h)
+
+  no-newline : to ≤ e → ltb (endOf s i) (stopOf i) ≡ false
+  no-newline h = rw (f .line, f .start, f .stop) at (le-ltb _ _ h)
+
+  any-left : (t : Bool) → (i .over || ltb from to) ≡ t → (i .over || ltb (startOf i) (stopOf i)) ≡ t
+  any-left t o = rw (f .start, f .stop) at o
+
+  pub whole-line : (k : Kind) → e < to → k ≡ kindOf (i .over)
+      → _≡_ {A = Step} (record { input = record { from = e + 1; to = to; over = false; ended = i .ended }; kind = k; start = from; end = e })
+      (stepOf s i)
+  whole-line k h q = rw (newline h, q, f .line, f .start, f .stop)
+
+  pub read-more : to ≤ e → i .ended ≡ false
+      → _≡_ {A = Step} (record { input = record { from = from; to = to; over = i .over; ended = i .ended }; kind = More; start = from; end = from })
+      (stepOf s i)
+  read-more h d = rw (no-newline h, d, f .start, f .stop)
+
+  pub last-line : (k : Kind) → to ≤ e → i .ended ≡ true → (i .over || ltb from to) ≡ true → k ≡ kindOf (i .over)
+      → _≡_ {A = Step} (record { input = record { from = to; to = to; over = false; ended = i .ended }; kind = k; start = from; end = to })
+      (stepOf s i)
+  last-line k h d o q = rw (no-newline h, d, any-left true o, q, f .start, f .stop)
+
+  pub no-line : to ≤ e → i .ended ≡ true → (i .over || ltb from to) ≡ false
+      → _≡_ {A = Step} (record { input = record { from = to; to = to; over = false; ended = i .ended }; kind = End; start = to; end = to })
+      (stepOf s i)
+  no-line h d o = rw (no-newline h, d, any-left false o, f .stop)
+
+-- a turn of the loop that moves bytes to the front: each byte is moved before it is overwritten
+module _ (old buf : List ℕ) (from i : ℕ) (h : from + i < length old) (n : length buf ≡ length old) where
+  pub byte-moved : take i buf ≡ take i (drop from old) → drop i buf ≡ drop i old
+      → take (i + 1) (set buf i (getD buf (from + i) 0)) ≡ take (i + 1) (drop from old)
+  byte-moved t d =
+      let e : from + i ≡ i + from = omega arith in
+      let v : getD buf (from + i) 0 ≡ getD (drop from old) i 0 =
+      rw (getD-drop from old i 0, e) (sym (getD-drop i buf from 0) ∙ ap (λ (l : List ℕ). getD l from 0) d ∙ getD-drop i old from 0) in
+      rw (add-one i, take-suc-set buf i (getD buf (from + i) 0) (omega arith), take-suc (drop from old) i 0 (simp length-drop (omega arith)), t, v)
+
+  pub others-stay : drop i buf ≡ drop i old → drop (i + 1) (set buf i (getD buf (from + i) 0)) ≡ drop (i + 1) old
+  others-stay d = drop-set-lt (i + 1) buf i _ (omega arith) ∙ sym (drop-drop 1 i buf) ∙ ap (drop 1) d ∙ drop-drop 1 i old
+
+-- where the part from index at on is lent, what comes back leaves the bytes before it
+pub front-stays : (buf back : List ℕ) (at : ℕ) → at ≤ length buf → take at (take at buf ++ back) ≡ take at buf
+front-stays buf back at h = take-at (take at buf) back at (length-take-le at buf h)
+
+-- the bytes from index f up to index t are the first t - f of those from f on
+pub part-of : (s : List ℕ) (f t : ℕ) → f ≤ t → t ≤ length s → slice f t s ≡ take (t - f) (drop f s)
+unfolding slice
+part-of s f t h m =
+    let part : (k : ℕ) → drop f (take (f + k) s) ≡ take k (drop f s) =
+    λ k. rw (take-add f k s) (drop-at (take f s) (take k (drop f s)) f (length-take-le f s (omega arith))) in
+    let e : f + (t - f) ≡ t = omega arith in
+    rw e at (part (t - f))
+
+-- from old, mid after the move and new after the read
+pub refilled : (old mid new : List ℕ) (i : Input) (to from n came : ℕ) → length old ≡ size → to ≡ min (i .to) size → from ≡ min (i .from) to
+    → n ≡ cond (i .over || eqb (to - from) size) 0 (to - from) → n ≤ to - from → n + came ≤ size
+    → take n mid ≡ take n (drop from old) → take n new ≡ take n mid
+    → Refilled old i new (record { from = 0; to = n + came; over = i .over || eqb (to - from) size; ended = eqb came 0 })
+refilled old mid new i to from n came long pt pf pn small fits moved stays =
+    let k : n ≡ keptOf i = rw (pf, pt) at pn in
+    let u : take n new ≡ take n (slice from to old) =
+    stays ∙ moved ∙ rw (part-of old from to (omega arith) (omega arith), take-take n (to - from) (drop from old) small) in
+    record {
+      came = came;
+      fits = rw k at fits;
+      next = rw (k, pf, pt);
+      kept = rw (k, pf, pt) at u;
+    }

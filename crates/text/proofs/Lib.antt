@@ -1,0 +1,9 @@
+-- For callers: `OutputLaws` composes writes, `WordLaws` says what `sameBytes` means, and `InOrder` and `RoundTrip` are theorems on the definitions.
+pub mod OutputLaws
+pub mod WordLaws
+pub mod InOrder
+pub mod RoundTrip
+mod InputLaws
+mod DecimalLaws
+mod HexLaws
+mod Examples

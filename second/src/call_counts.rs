@@ -1,0 +1,115 @@
+//! What occurred in scripts of `calls`, counted so that the coverage is seen.
+
+use std::fmt;
+
+use crate::reply::{Reply, REPLIES};
+
+/// The five calls whose replies the tally counts.
+#[derive(Clone, Copy, Debug, PartialEq, Eq)]
+pub enum Call {
+    SetUp = 0,
+    Hear = 1,
+    Tick = 2,
+    Request = 3,
+    NextFrame = 4,
+}
+
+impl Call {
+    pub const ALL: [Call; 5] = [Call::SetUp, Call::Hear, Call::Tick, Call::Request, Call::NextFrame];
+
+    pub fn name(self) -> &'static str {
+        match self {
+            Call::SetUp => "set up",
+            Call::Hear => "hear",
+            Call::Tick => "tick",
+            Call::Request => "request",
+            Call::NextFrame => "next frame",
+        }
+    }
+
+    /// The reply numbers that the call can give.
+    pub fn numbers(self) -> &'static [usize] {
+        match self {
+            Call::SetUp => &[0, 1, 2, 3],
+            Call::Hear => &[0, 4, 5, 6, 7, 11],
+            Call::Tick => &[0, 11],
+            Call::Request => &[0, 8, 9, 10],
+            Call::NextFrame => &[0, 11, 12],
+        }
+    }
+}
+
+/// What occurred in scripts of `calls`.
+#[derive(Clone, Debug, Default)]
+pub struct CallCounts {
+    pub replies: [[u64; REPLIES]; 5],
+    /// Set ups taken, class by role.
+    pub taken: [[u64; 2]; 3],
+    pub nodes: u64,
+    pub deliveries: u64,
+    pub aborts: u64,
+    pub unreadable: u64,
+    /// How often the 16-bit counter rolled over.
+    pub rollovers: u64,
+}
+
+impl CallCounts {
+    pub fn set_up(&mut self, class: u8, role: u8) {
+        if let Some(count) = self.taken.get_mut(usize::from(class)).and_then(|row| row.get_mut(usize::from(role))) {
+            *count += 1;
+        }
+    }
+
+    /// The replies that could occur and did not.
+    pub fn missing(&self) -> Vec<String> {
+        let mut missing = Vec::new();
+        for call in Call::ALL {
+            for &number in call.numbers() {
+                if self.replies[call as usize][number] == 0 {
+                    missing.push(format!("{} never answered {number}", call.name()));
+                }
+            }
+        }
+        for (class, row) in self.taken.iter().enumerate() {
+            for (role, count) in row.iter().enumerate() {
+                if *count == 0 {
+                    missing.push(format!("class {class} was never set up with role {role}"));
+                }
+            }
+        }
+        let counts = [
+            ("a delivery", self.deliveries),
+            ("an abort", self.aborts),
+            ("a line that can't be read", self.unreadable),
+            ("a rollover", self.rollovers),
+        ];
+        missing.extend(counts.iter().filter(|(_, count)| *count == 0).map(|(what, _)| what.to_string()));
+        missing
+    }
+}
+
+impl fmt::Display for CallCounts {
+    fn fmt(&self, f: &mut fmt::Formatter) -> fmt::Result {
+        writeln!(
+            f,
+            "  fresh nodes {}, deliveries {}, aborts made pending {}, rollovers {}, lines that can't be read {}",
+            self.nodes, self.deliveries, self.aborts, self.rollovers, self.unreadable
+        )?;
+        write!(f, "  set ups taken (receive, send):")?;
+        for (name, row) in ["plain", "IMD", "2M"].iter().zip(&self.taken) {
+            write!(f, " {name} {}, {};", row[0], row[1])?;
+        }
+        writeln!(f)?;
+        for call in Call::ALL {
+            write!(f, "  {:<10}", call.name())?;
+            for reply in Reply::ALL {
+                let count = self.replies[call as usize][reply.number()];
+                if count > 0 {
+                    write!(f, "  {} {reply:?} {count}", reply.number())?;
+                }
+            }
+            writeln!(f)?;
+        }
+        Ok(())
+    }
+}

@@ -1,0 +1,212 @@
+//! The text format of `calls`: one node and its tally, driven by lines of text.
+
+use std::fmt::Write;
+
+use crate::bench::LOOK_EACH;
+use crate::call_counts::{Call, CallCounts};
+use crate::fault::Fault;
+use crate::lines::Cut;
+use crate::node::{Node, TICK_OUTPUT};
+use crate::receiver::{Did, Happened};
+use crate::reply::{Reply, Tally};
+use crate::settings::Asked;
+use crate::words::{hex, number, number_u16, number_u32, number_u8, payload, put_hex, words};
+
+/// What a lent output is filled with before a call.
+const FILL: u8 = 0xee;
+const OUTPUT_MOST: u64 = 1_024;
+const TICKS_MOST: u64 = 65_536;
+
+/// A line that was read.
+enum Line {
+    Node,
+    SetUp(Asked),
+    Hear { id: u32, dlc: u8, payload: Vec<u8>, output: usize },
+    Tick { output: usize },
+    Ticks { number: u64 },
+    Request { stream: u32, payload: Vec<u8> },
+    Next { output: usize },
+    Tally,
+}
+
+/// The seven numbers of a set up, as both text formats have them.
+pub fn read_asked(words: &[&[u8]]) -> Option<Asked> {
+    let [stream, role, class, rd, dc, ra, dd] = words else {
+        return None;
+    };
+    Some(Asked {
+        stream: number_u32(stream)?,
+        role: number_u8(role)?,
+        class: number_u8(class)?,
+        data_reach: number_u16(rd)?,
+        confirm_delay: number_u16(dc)?,
+        abort_reach: number_u16(ra)?,
+        deliver_delay: number_u16(dd)?,
+    })
+}
+
+pub fn write_asked(asked: &Asked) -> String {
+    let Asked { stream, role, class, data_reach, confirm_delay, abort_reach, deliver_delay } = asked;
+    format!("{stream} {role} {class} {data_reach} {confirm_delay} {abort_reach} {deliver_delay}")
+}
+
+fn read(line: &[u8]) -> Option<Line> {
+    let words = words(line);
+    let output = |word: &[u8]| number(word, OUTPUT_MOST).and_then(|length| usize::try_from(length).ok());
+    match words.as_slice() {
+        [b"node"] => Some(Line::Node),
+        [b"setup", asked @ ..] => Some(Line::SetUp(read_asked(asked)?)),
+        [b"hear", id, dlc, bytes, length] => Some(Line::Hear {
+            id: number_u32(id)?,
+            dlc: number_u8(dlc)?,
+            payload: payload(bytes)?,
+            output: output(length)?,
+        }),
+        [b"tick", length] => Some(Line::Tick { output: output(length)? }),
+        [b"ticks", times] => Some(Line::Ticks { number: number(times, TICKS_MOST)? }),
+        [b"request", stream, bytes] => Some(Line::Request { stream: number_u32(stream)?, payload: payload(bytes)? }),
+        [b"next", length] => Some(Line::Next { output: output(length)? }),
+        [b"tally"] => Some(Line::Tally),
+        _ => None,
+    }
+}
+
+/// One node and its tally; before the first `node` they are fresh.
+pub struct Calls {
+    node: Node,
+    tally: Tally,
+    fault: Fault,
+    /// What happened since the program began.
+    pub seen: CallCounts,
+}
+
+impl Calls {
+    pub fn new(fault: Fault) -> Calls {
+        Calls { node: Node::with(fault), tally: Tally::default(), fault, seen: CallCounts::default() }
+    }
+
+    pub fn answer_cut(&mut self, line: Cut) -> String {
+        if line.cut {
+            return self.unreadable();
+        }
+        self.answer(line.bytes)
+    }
+
+    /// The answer to a line.
+    pub fn answer(&mut self, line: &[u8]) -> String {
+        match read(line) {
+            Some(Line::Node) => self.start(),
+            Some(line) => {
+                let before = self.node.now();
+                let answer = self.run(line);
+                self.seen.rollovers += self.node.now() / 65_536 - before / 65_536;
+                answer
+            }
+            None => self.unreadable(),
+        }
+    }
+
+    fn start(&mut self) -> String {
+        self.node = Node::with(self.fault);
+        self.tally = Tally::default();
+        self.seen.nodes += 1;
+        "node".to_string()
+    }
+
+    fn unreadable(&mut self) -> String {
+        self.seen.unreadable += 1;
+        "?".to_string()
+    }
+
+    fn count(&mut self, call: Call, reply: Reply) {
+        self.seen.replies[call as usize][reply.number()] += 1;
+        match self.fault {
+            Fault::InventedTally => self.tally.count(Reply::Done),
+            Fault::TallyMissesRefusals if reply != Reply::Done => {}
+            _ => self.tally.count(reply),
+        }
+    }
+
+    fn run(&mut self, line: Line) -> String {
+        match line {
+            Line::Node => self.start(),
+            Line::SetUp(asked) => {
+                let reply = self.node.set_up(asked);
+                self.count(Call::SetUp, reply);
+                if reply == Reply::Done {
+                    self.seen.set_up(asked.class, asked.role);
+                }
+                reply.number().to_string()
+            }
+            Line::Hear { id, dlc, payload, output } => self.hear(id, dlc, &payload, output),
+            Line::Tick { output } => {
+                let mut lent = vec![FILL; output];
+                let (reply, written) = self.tick(&mut lent);
+                let clean = if lent[written..].iter().all(|byte| *byte == FILL) { "clean" } else { "dirty" };
+                format!("{} {} {} {}", reply.number(), written, hex(&lent[..written]), clean)
+            }
+            Line::Ticks { number } => self.ticks(number),
+            Line::Request { stream, payload } => {
+                let reply = self.node.request(stream, &payload);
+                self.count(Call::Request, reply);
+                reply.number().to_string()
+            }
+            Line::Next { output } => {
+                let mut lent = vec![FILL; output];
+                let next = self.node.next_frame(&mut lent);
+                self.count(Call::NextFrame, next.reply);
+                format!("{} {} {} {}", next.reply.number(), next.id.0, next.length, hex(&lent))
+            }
+            Line::Tally => {
+                let counts: Vec<String> = self.tally.counts().iter().map(u32::to_string).collect();
+                counts.join(" ")
+            }
+        }
+    }
+
+    fn hear(&mut self, id: u32, dlc: u8, payload: &[u8], output: usize) -> String {
+        let mut lent = vec![FILL; output];
+        let heard = self.node.hear(id, dlc, payload, &mut lent);
+        self.count(Call::Hear, heard.reply);
+        match heard.did {
+            Did::DeliveredAtOnce => self.seen.deliveries += 1,
+            Did::AbortPending => self.seen.aborts += 1,
+            Did::Nothing => {}
+        }
+        format!("{} {} {}", heard.reply.number(), heard.written, hex(&lent))
+    }
+
+    fn tick(&mut self, lent: &mut [u8]) -> (Reply, usize) {
+        let ticked = self.node.tick(lent);
+        self.count(Call::Tick, ticked.reply);
+        for (_, happened) in &ticked.happened {
+            match happened {
+                Happened::Delivered(_) => self.seen.deliveries += 1,
+                Happened::AbortPending => self.seen.aborts += 1,
+                Happened::Dropped => {}
+            }
+        }
+        (ticked.reply, ticked.written)
+    }
+
+    fn ticks(&mut self, number: u64) -> String {
+        let mut text = String::new();
+        let mut lent = [FILL; TICK_OUTPUT];
+        for at in 1..=number {
+            if at % LOOK_EACH == 0 && self.node.is_idle() {
+                let rest = number - at + 1;
+                self.node.pass(rest);
+                (0..rest).for_each(|_| self.count(Call::Tick, Reply::Done));
+                break;
+            }
+            let (_, written) = self.tick(&mut lent);
+            if written > 0 {
+                let _ = write!(text, "{at} ");
+                put_hex(&mut text, &lent[..written]);
+                text.push(' ');
+            }
+        }
+        let _ = write!(text, "{}", self.node.counter());
+        text
+    }
+}

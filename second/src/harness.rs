@@ -1,0 +1,250 @@
+//! The text format of `harness`: a bench driven by lines of text, and its lines and answers written and read back.
+
+use std::fmt::Write;
+
+use crate::bench::{Bench, Delivery, Hearing, Outcome, Step};
+use crate::calls::{read_asked, write_asked};
+use crate::fault::Fault;
+use crate::history::{Event, Hearers, Line};
+use crate::ident::{BusId, Stream};
+use crate::lines::Cut;
+use crate::reply::Reply;
+use crate::words::{hex, number, number_u32, payload, put_hex, words};
+
+/// The most ticks that one line may ask for.
+const TICKS_MOST: u64 = 1_000_000;
+
+/// Empty lines and lines that begin with `#` are skipped.
+pub fn skipped(line: &[u8]) -> bool {
+    line.is_empty() || line[0] == b'#'
+}
+
+/// A line as the bench can take it: its modules and frames are there.
+fn read(line: &[u8], bench: Option<&Bench>) -> Option<Line> {
+    let words = words(line);
+    if let [b"modules", count] = words.as_slice() {
+        let count = number(count, 8)?;
+        return (count >= 2).then_some(Line::Modules(count as usize));
+    }
+    let bench = bench?;
+    let below = |word: &[u8], count: usize| {
+        let value = usize::try_from(number(word, u64::MAX)?).ok()?;
+        (value < count).then_some(value)
+    };
+    let module = |word: &[u8]| below(word, bench.modules().len());
+    let frame = |word: &[u8]| below(word, bench.frames().len());
+    let event = match words.as_slice() {
+        [b"setup", name, asked @ ..] => {
+            return Some(Line::SetUp { module: module(name)?, asked: read_asked(asked)? });
+        }
+        [b"request", name, stream, bytes] => {
+            Event::Request { module: module(name)?, stream: number_u32(stream)?, payload: payload(bytes)? }
+        }
+        [b"give", name] => Event::Give { module: module(name)? },
+        [b"full", number] => Event::Send { frame: frame(number)?, hearers: Hearers::Full },
+        [b"short", number, names @ ..] => {
+            let names: Option<Vec<usize>> = names.iter().map(|name| module(name)).collect();
+            Event::Send { frame: frame(number)?, hearers: Hearers::Short(names?) }
+        }
+        [b"tick"] => Event::Tick,
+        [b"ticks", times] => Event::Ticks(number(times, TICKS_MOST)?),
+        [b"death", name] => Event::Death { module: module(name)? },
+        _ => return None,
+    };
+    Some(Line::Event(event))
+}
+
+/// Whether a line can be read where this bench stands.
+pub fn reads(line: &[u8], bench: &Bench) -> bool {
+    !skipped(line) && read(line, Some(bench)).is_some()
+}
+
+/// The lines of a script that begins with `modules`; what can't be read where it stands is kept as it is.
+pub fn read_script(text: &[u8]) -> Vec<Line> {
+    let mut bench: Option<Bench> = None;
+    let mut lines = Vec::new();
+    for text in text.split(|byte| *byte == b'\n') {
+        let line = read(text, bench.as_ref()).unwrap_or_else(|| Line::Other(text.to_vec()));
+        match (&line, &mut bench) {
+            (Line::Modules(count), _) => bench = Some(Bench::new(*count)),
+            (Line::SetUp { module, asked }, Some(bench)) => {
+                bench.set_up(*module, *asked);
+            }
+            (Line::Event(event), Some(bench)) => {
+                bench.run(event);
+            }
+            _ => {}
+        }
+        lines.push(line);
+    }
+    lines
+}
+
+/// The text of a line.
+pub fn write_line(line: &Line) -> Vec<u8> {
+    let text = match line {
+        Line::Modules(count) => format!("modules {count}"),
+        Line::SetUp { module, asked } => format!("setup {module} {}", write_asked(asked)),
+        Line::Event(Event::Request { module, stream, payload }) => {
+            format!("request {module} {stream} {}", hex(payload))
+        }
+        Line::Event(Event::Give { module }) => format!("give {module}"),
+        Line::Event(Event::Send { frame, hearers: Hearers::Full }) => format!("full {frame}"),
+        Line::Event(Event::Send { frame, hearers: Hearers::Short(names) }) => {
+            let mut text = format!("short {frame}");
+            for name in names {
+                let _ = write!(text, " {name}");
+            }
+            text
+        }
+        Line::Event(Event::Tick) => "tick".to_string(),
+        Line::Event(Event::Ticks(number)) => format!("ticks {number}"),
+        Line::Event(Event::Death { module }) => format!("death {module}"),
+        Line::Other(bytes) => return bytes.clone(),
+    };
+    text.into_bytes()
+}
+
+/// The text of a script.
+pub fn write_script(lines: &[Line]) -> Vec<u8> {
+    let mut text = Vec::new();
+    for line in lines {
+        text.extend(write_line(line));
+        text.push(b'\n');
+    }
+    text
+}
+
+/// The answer to an event.
+pub fn write_answer(event: &Event, outcome: &Outcome) -> String {
+    match outcome {
+        Outcome::Replied(reply) => reply.number().to_string(),
+        Outcome::Dead => "dead".to_string(),
+        Outcome::Refused => "?".to_string(),
+        Outcome::NothingPending => Reply::Nothing.number().to_string(),
+        Outcome::Gave { frame, id, payload } => format!("0 {frame} {} {}", id.0, hex(payload)),
+        Outcome::Heard(hearings) => {
+            let mut text = String::new();
+            for hearing in hearings {
+                if !text.is_empty() {
+                    text.push(' ');
+                }
+                let _ = write!(text, "{}:{}", hearing.module, hearing.reply.number());
+                if let Some((stream, payload)) = &hearing.delivered {
+                    let _ = write!(text, ":{}:", stream.0);
+                    put_hex(&mut text, payload);
+                }
+            }
+            if text.is_empty() {
+                text.push('-');
+            }
+            text
+        }
+        Outcome::Ticked { count, delivered } => {
+            let mut text = count.to_string();
+            for delivery in delivered {
+                text.push(' ');
+                if let Event::Ticks(_) = event {
+                    let _ = write!(text, "{}:", delivery.tick);
+                }
+                let _ = write!(text, "{}:{}:", delivery.module, delivery.stream.0);
+                put_hex(&mut text, &delivery.payload);
+            }
+            text
+        }
+    }
+}
+
+/// The outcome that an answer tells of; none if it is no answer to such an event.
+pub fn read_answer(event: &Event, answer: &str) -> Option<Outcome> {
+    let words: Vec<&str> = answer.split(' ').collect();
+    let value = |word: &str| number(word.as_bytes(), u64::MAX);
+    let reply = |word: &str| value(word).and_then(Reply::from_number);
+    let index = |word: &str| value(word).and_then(|value| usize::try_from(value).ok());
+    let stream = |word: &str| number_u32(word.as_bytes()).map(Stream);
+    let bytes = |word: &str| payload(word.as_bytes());
+    match (event, words.as_slice()) {
+        (Event::Death { .. } | Event::Request { .. } | Event::Give { .. } | Event::Send { .. }, ["dead"]) => {
+            Some(Outcome::Dead)
+        }
+        (Event::Give { .. } | Event::Send { .. }, ["?"]) => Some(Outcome::Refused),
+        (Event::Request { .. }, [word]) => Some(Outcome::Replied(reply(word)?)),
+        (Event::Give { .. }, ["12"]) => Some(Outcome::NothingPending),
+        (Event::Give { .. }, ["0", frame, id, payload]) => Some(Outcome::Gave {
+            frame: index(frame)?,
+            id: BusId(number_u32(id.as_bytes())?),
+            payload: bytes(payload)?,
+        }),
+        (Event::Send { .. }, ["-"]) => Some(Outcome::Heard(Vec::new())),
+        (Event::Send { .. }, hearings) => {
+            let read = |word: &&str| {
+                let fields: Vec<&str> = word.split(':').collect();
+                let delivered = match fields.get(2..) {
+                    Some([number, payload]) => Some((stream(number)?, bytes(payload)?)),
+                    Some([]) => None,
+                    _ => return None,
+                };
+                Some(Hearing { module: index(fields[0])?, reply: reply(fields[1])?, delivered })
+            };
+            hearings.iter().map(read).collect::<Option<Vec<Hearing>>>().map(Outcome::Heard)
+        }
+        (Event::Tick | Event::Ticks(_), [count, deliveries @ ..]) => {
+            let count = value(count)?;
+            let read = |word: &&str| {
+                let fields: Vec<&str> = word.split(':').collect();
+                let (tick, fields) = match (event, fields.as_slice()) {
+                    (Event::Ticks(_), [tick, fields @ ..]) => (value(tick)?, fields),
+                    (_, fields) => (count, fields),
+                };
+                let [module, number, payload] = fields else {
+                    return None;
+                };
+                Some(Delivery { tick, module: index(module)?, stream: stream(number)?, payload: bytes(payload)? })
+            };
+            let delivered = deliveries.iter().map(read).collect::<Option<Vec<Delivery>>>()?;
+            Some(Outcome::Ticked { count, delivered })
+        }
+        _ => None,
+    }
+}
+
+/// A bench, once there is one, driven by lines of text.
+pub struct Harness {
+    bench: Option<Bench>,
+    fault: Fault,
+}
+
+impl Harness {
+    pub fn new(fault: Fault) -> Harness {
+        Harness { bench: None, fault }
+    }
+
+    pub fn answer_cut(&mut self, line: Cut) -> Option<String> {
+        if line.cut && !skipped(line.bytes) {
+            return Some("?".to_string());
+        }
+        self.answer(line.bytes)
+    }
+
+    /// The answer to a line; none if it is skipped.
+    pub fn answer(&mut self, line: &[u8]) -> Option<String> {
+        if skipped(line) {
+            return None;
+        }
+        let Some(line) = read(line, self.bench.as_ref()) else {
+            return Some("?".to_string());
+        };
+        Some(match (line, &mut self.bench) {
+            (Line::Modules(count), _) => {
+                self.bench = Some(Bench::with(count, self.fault));
+                format!("modules {count}")
+            }
+            (Line::SetUp { module, asked }, Some(bench)) => bench.set_up(module, asked).number().to_string(),
+            (Line::Event(event), Some(bench)) => {
+                let Step { outcome, .. } = bench.run(&event);
+                write_answer(&event, &outcome)
+            }
+            _ => "?".to_string(),
+        })
+    }
+}

@@ -1,0 +1,341 @@
+//! The node: the protocol state of one module and its five calls, with absolute times as in 002's listing
+//! (`time_to_confirm`, `time_to_deliver`), parts kept in a map by stream, and ticks counted without bound.
+
+use std::collections::BTreeMap;
+
+use crate::clock::Clock;
+use crate::fault::Fault;
+use crate::ident::{own, split_by, BusId, Code, Stream};
+use crate::limits::Limit;
+use crate::receiver::{Did, Fate, Happened, Receiver};
+use crate::record;
+use crate::reply::Reply;
+use crate::sender::Sender;
+use crate::settings::{Asked, Role};
+
+/// The lengths of the lent outputs that are always long enough.
+pub const HEAR_OUTPUT: usize = 16;
+pub const TICK_OUTPUT: usize = 512;
+pub const NEXT_OUTPUT: usize = 8;
+
+#[derive(Clone, Debug, PartialEq, Eq, Hash)]
+pub struct Node {
+    now: u64,
+    parts: BTreeMap<Stream, Part>,
+    fault: Fault,
+    /// The streams as they were set up. Only mutants look at it.
+    order: Vec<Stream>,
+    /// Whether a frame was heard. Only a mutant looks at it.
+    heard_one: bool,
+}
+
+/// What a node keeps for a stream.
+#[derive(Clone, Debug, PartialEq, Eq, Hash)]
+pub enum Part {
+    Sends(Sender),
+    Receives(Receiver),
+}
+
+/// What hearing answers: the reply, the bytes written, and what it did beyond them.
+#[derive(Clone, Debug, PartialEq, Eq)]
+pub struct Heard {
+    pub reply: Reply,
+    pub written: usize,
+    pub did: Did,
+}
+
+/// What a tick answers: the reply, the bytes written, and what happened to which stream, ascending.
+#[derive(Clone, Debug, PartialEq, Eq)]
+pub struct Ticked {
+    pub reply: Reply,
+    pub written: usize,
+    pub happened: Vec<(Stream, Happened)>,
+}
+
+/// What next frame answers.
+#[derive(Clone, Copy, Debug, PartialEq, Eq)]
+pub struct NextFrame {
+    pub reply: Reply,
+    pub id: BusId,
+    pub length: usize,
+}
+
+impl Part {
+    /// The code of the next frame of the stream that is pending.
+    fn pending(&self, fault: Fault) -> Option<Code> {
+        match self {
+            Part::Sends(sender) => sender.pending(fault),
+            Part::Receives(receiver) => (receiver.aborts > 0).then_some(Code::Abort),
+        }
+    }
+
+    /// Whether a tick has something to do for the stream.
+    fn is_due(&self, clock: Clock) -> bool {
+        match self {
+            Part::Sends(sender) => sender.hold_has_ended(clock),
+            Part::Receives(receiver) => receiver.fate(clock).is_some(),
+        }
+    }
+}
+
+impl Node {
+    pub fn fresh() -> Node {
+        Node::with(Fault::None)
+    }
+
+    /// A fresh node with a fault switched on.
+    pub fn with(fault: Fault) -> Node {
+        Node { now: 0, parts: BTreeMap::new(), fault, order: Vec::new(), heard_one: false }
+    }
+
+    /// The ticks since the node was fresh.
+    pub fn now(&self) -> u64 {
+        self.now
+    }
+
+    /// The tick counter of 16 bits.
+    pub fn counter(&self) -> u64 {
+        self.now % 65_536
+    }
+
+    pub fn part(&self, stream: Stream) -> Option<&Part> {
+        self.parts.get(&stream)
+    }
+
+    /// Whether a frame is pending.
+    pub fn has_pending(&self) -> bool {
+        self.parts.values().any(|part| part.pending(self.fault).is_some())
+    }
+
+    /// Whether ticks do nothing but count: no message is held, and no hold.
+    pub fn is_idle(&self) -> bool {
+        let counts = !matches!(self.fault, Fault::DoesNothing | Fault::Limit(Limit::TickOutput, _));
+        counts
+            && self.parts.values().all(|part| match part {
+                Part::Sends(sender) => sender.held_until.is_none(),
+                Part::Receives(receiver) => receiver.message.is_none(),
+            })
+    }
+
+    /// So many ticks of an idle node.
+    pub fn pass(&mut self, ticks: u64) {
+        self.now += ticks;
+    }
+
+    fn clock(&self) -> Clock {
+        Clock { now: self.now, fault: self.fault }
+    }
+
+    /// Whether the length of an output (or the like) is below the limit.
+    fn below(&self, length: usize, limit: Limit) -> bool {
+        i64::try_from(length).is_ok_and(|length| length < limit.of(self.fault))
+    }
+
+    fn above(&self, length: usize, limit: Limit) -> bool {
+        i64::try_from(length).map_or(true, |length| length > limit.of(self.fault))
+    }
+
+    /// Sets a stream up.
+    pub fn set_up(&mut self, asked: Asked) -> Reply {
+        if self.fault == Fault::DoesNothing {
+            return Reply::Done;
+        }
+        let taken = self.parts.contains_key(&Stream(asked.stream));
+        let full = !self.below(self.parts.len(), Limit::Slots);
+        if taken && self.fault == Fault::TakenFirst {
+            return Reply::Taken;
+        }
+        let Some(settings) = asked.tested_by(self.fault) else {
+            return Reply::BadSettings;
+        };
+        if full && self.fault == Fault::FullFirst {
+            return Reply::TableFull;
+        }
+        if taken {
+            return Reply::Taken;
+        }
+        if full {
+            return Reply::TableFull;
+        }
+        let part = match settings.role {
+            Role::Send => Part::Sends(Sender::new(settings)),
+            Role::Receive => Part::Receives(Receiver::new(settings)),
+        };
+        self.parts.insert(settings.stream, part);
+        self.order.push(settings.stream);
+        Reply::Done
+    }
+
+    /// Hears a frame from the bus.
+    pub fn hear(&mut self, id: u32, dlc: u8, payload: &[u8], output: &mut [u8]) -> Heard {
+        let answered = |reply| Heard { reply, written: 0, did: Did::Nothing };
+        if self.fault == Fault::DoesNothing {
+            return answered(Reply::Done);
+        }
+        let (stream, code) = match self.frame_heard(id, dlc, payload, output.len()) {
+            Ok(frame) => frame,
+            Err(reply) => return answered(reply),
+        };
+        let (fault, clock) = (self.fault, self.clock());
+        let receiver = match self.parts.get_mut(&stream) {
+            Some(Part::Receives(receiver)) => receiver,
+            Some(Part::Sends(_)) if fault == Fault::SendSlotHears => return answered(Reply::Done),
+            _ => return answered(Reply::NotMine),
+        };
+        if !receiver.settings.class.carries_by(fault, code) {
+            return answered(Reply::Misfit);
+        }
+        if fault == Fault::FirstFrameOnly && std::mem::replace(&mut self.heard_one, true) {
+            return answered(Reply::Done);
+        }
+        let done = |did| Heard { reply: Reply::Done, written: 0, did };
+        match code {
+            Code::Data => answered(receiver.hear_data(payload, clock)),
+            Code::Confirmation => done(receiver.hear_confirmation(clock)),
+            Code::Abort => done(receiver.hear_abort(fault)),
+            Code::Plain if fault == Fault::NeverDelivers => done(Did::Nothing),
+            Code::Plain => {
+                let written = record::put(fault, stream, payload, output);
+                Heard { reply: Reply::Done, written, did: Did::DeliveredAtOnce }
+            }
+        }
+    }
+
+    /// The stream and code of a frame that the lent output and the frame test let through.
+    fn frame_heard(&self, id: u32, dlc: u8, payload: &[u8], output: usize) -> Result<(Stream, Code), Reply> {
+        let short = self.below(output, Limit::HearOutput);
+        if short && self.fault != Fault::FrameFirst {
+            return Err(Reply::ShortOutput);
+        }
+        if self.fault == Fault::MineFirst && !matches!(self.parts.get(&Stream(id / 4)), Some(Part::Receives(_))) {
+            return Err(Reply::NotMine);
+        }
+        let (stream, code) = split_by(self.fault, BusId(id))?;
+        let unwanted = matches!(code, Code::Confirmation | Code::Abort) && dlc != 0;
+        if self.above(usize::from(dlc), Limit::DlcMost)
+            || payload.len() != usize::from(dlc)
+            || unwanted
+            || self.fault == Fault::RefusesFrames
+        {
+            return Err(Reply::BadFrame);
+        }
+        if short {
+            return Err(Reply::ShortOutput);
+        }
+        Ok((stream, code))
+    }
+
+    /// Moves the count, then drops, delivers and ends holds, by ascending stream.
+    pub fn tick(&mut self, output: &mut [u8]) -> Ticked {
+        let fault = self.fault;
+        let mut ticked = Ticked { reply: Reply::Done, written: 0, happened: Vec::new() };
+        if fault == Fault::DoesNothing {
+            return ticked;
+        }
+        if self.below(output.len(), Limit::TickOutput) {
+            self.now += u64::from(fault == Fault::RefusedTickMoves);
+            ticked.reply = Reply::ShortOutput;
+            return ticked;
+        }
+        self.now += 1;
+        let clock = self.clock();
+        for stream in self.due(clock) {
+            match self.parts.get_mut(&stream) {
+                Some(Part::Sends(sender)) => sender.held_until = None,
+                Some(Part::Receives(receiver)) => match receiver.fate(clock) {
+                    Some(Fate::Drop) => ticked.happened.push((stream, receiver.drop_unconfirmed(fault))),
+                    Some(Fate::Deliver) if fault == Fault::TickDeliversOne && ticked.written > 0 => {}
+                    Some(Fate::Deliver) => {
+                        let payload = receiver.deliver(fault);
+                        if fault != Fault::NeverDelivers {
+                            ticked.written += record::put(fault, stream, &payload, &mut output[ticked.written..]);
+                            ticked.happened.push((stream, Happened::Delivered(payload)));
+                        }
+                    }
+                    None => {}
+                },
+                None => {}
+            }
+        }
+        ticked
+    }
+
+    /// The streams that a tick has something to do for, ascending.
+    fn due(&self, clock: Clock) -> Vec<Stream> {
+        let mut due: Vec<Stream> =
+            self.parts.iter().filter(|(_, part)| part.is_due(clock)).map(|(stream, _)| *stream).collect();
+        if self.fault == Fault::SlotOrder {
+            due.sort_by_key(|stream| self.order.iter().position(|other| other == stream));
+        }
+        due
+    }
+
+    /// Takes a request to send.
+    pub fn request(&mut self, stream: u32, payload: &[u8]) -> Reply {
+        let (fault, clock) = (self.fault, self.clock());
+        if fault == Fault::DoesNothing {
+            return Reply::Done;
+        }
+        let long = self.above(payload.len(), Limit::RequestMost);
+        if long && fault != Fault::SenderFirst {
+            return Reply::BadLength;
+        }
+        let Some(Part::Sends(sender)) = self.parts.get_mut(&Stream(stream)) else {
+            return Reply::NotSender;
+        };
+        if long {
+            return Reply::BadLength;
+        }
+        if sender.busy(fault) {
+            return Reply::Busy;
+        }
+        sender.request(payload, clock);
+        Reply::Done
+    }
+
+    /// Gives out the pending frame with the lowest bus identifier.
+    pub fn next_frame(&mut self, output: &mut [u8]) -> NextFrame {
+        let fault = self.fault;
+        let refused = |reply| NextFrame { reply, id: BusId(0), length: 0 };
+        if fault == Fault::DoesNothing {
+            return refused(Reply::Done);
+        }
+        let next = self.next_pending();
+        let short = self.below(output.len(), Limit::NextOutput);
+        if fault == Fault::RefusalWrites && (short || next.is_none()) {
+            output.fill(0);
+        }
+        if short && !(fault == Fault::NothingFirst && next.is_none()) {
+            return refused(Reply::ShortOutput);
+        }
+        let Some((stream, code)) = next else {
+            return refused(Reply::Nothing);
+        };
+        let payload = match self.parts.get_mut(&stream) {
+            Some(Part::Sends(sender)) => sender.give_out(code, fault),
+            Some(Part::Receives(receiver)) => {
+                receiver.aborts -= 1;
+                Vec::new()
+            }
+            None => Vec::new(),
+        };
+        let length = payload.len().min(output.len());
+        output[..length].copy_from_slice(&payload[..length]);
+        if fault == Fault::PastRecord {
+            output[length..].fill(0);
+        }
+        NextFrame { reply: Reply::Done, id: own(stream, code), length }
+    }
+
+    /// The pending frame with the lowest bus identifier: the map ascends by stream, and a part names its lowest.
+    fn next_pending(&self) -> Option<(Stream, Code)> {
+        let pending = |stream: &Stream| {
+            let part = self.parts.get(stream)?;
+            Some((*stream, part.pending(self.fault)?))
+        };
+        if self.fault == Fault::NextInSlotOrder {
+            return self.order.iter().find_map(pending);
+        }
+        self.parts.keys().find_map(pending)
+    }
+}
