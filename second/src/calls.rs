@@ -106,9 +106,14 @@ impl Calls {
         }
     }
 
-    fn start(&mut self) -> String {
+    /// As when the program begins: a fresh node and tally.
+    pub fn begin(&mut self) {
         self.node = Node::with(self.fault);
         self.tally = Tally::default();
+    }
+
+    fn start(&mut self) -> String {
+        self.begin();
         self.seen.nodes += 1;
         "node".to_string()
     }

@@ -71,6 +71,7 @@ pub fn compare(options: &Options) -> Result<bool, String> {
     let mut batch = Batch::make(options, &mut number);
     loop {
         let running = options.program.start(batch.text())?;
+        second.begin();
         // While the program works, the answers due, and the next batch.
         let due: Vec<Vec<String>> =
             batch.scripts.iter().map(|script| script.iter().map(|line| second.answer(line)).collect()).collect();
