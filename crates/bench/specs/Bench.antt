@@ -1,6 +1,6 @@
 -- The bench: modules on one harness, and for each message a book of its frames and their sendings.
 use Prim.Native.Nat.{ℕ}
-use mathlib.Core.Bool.{Bool, true, false, cond}
+use mathlib.Core.Bool.{Bool, false, cond}
 use mathlib.Core.List.{List, [], _∷_, map}
 use lib.Dec.{eqb}
 use Rattle.wire.specs.declared.ids.Stream.{Stream}

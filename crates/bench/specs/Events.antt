@@ -1,13 +1,12 @@
 -- One event of a history, and what it makes of a bench. Every node call is crate node's; lent outputs are long enough. What an event
 -- does to a module is said for either clock, and the bench of the rules goes by the unbounded one. An event is meant where the bench
 -- rules allow it (Rules.antt).
-use Prim.Native.Nat.{ℕ, zero, suc}
+use Prim.Native.Nat.{ℕ}
 use mathlib.Core.Bool.{Bool, true, false, not, cond, _&&_}
 use mathlib.Core.List.{List, [], _∷_, map}
 use lib.ListN.{length, replicate}
 use lib.Dec.{eqb}
 use Rattle.wire.specs.declared.ids.Stream.{Stream}
-use Rattle.wire.specs.declared.ids.BusId.{BusId}
 use Rattle.wire.specs.Identifiers.{streamOf, codeOf}
 use Rattle.node.specs.declared.slots.Slot.{Slot}
 use Rattle.node.specs.declared.Node.{Node}
@@ -16,9 +15,10 @@ use Rattle.node.specs.Nodes.{Outcome, slotOf}
 use Rattle.node.specs.Clock.{Clock, unbounded}
 use Rattle.node.specs.Tick.{tickRoom, dueSlots}
 use Rattle.node.specs.Calls.{Call, hear, tick, request, nextFrame, outcome}
-use Rattle.bench.specs.Lists.{nth, at, each, member}
+use Rattle.bench.specs.Lists.{at, each, member}
 use Rattle.bench.specs.SetUp.{isDone}
-use Rattle.bench.specs.Bench.{Moment, Sendings, never, sent, Frame, pendingSince, Book, Ledger, Delivery, Module, Bench, sameStream, moduleAt, isLive, counts, now, bookOf, Which, thePayload, theConfirmation, theAbort, frameOf, ownerOf}
+use Rattle.bench.specs.Bench.{Moment, Sendings, never, sent, Frame, pendingSince, Book, Ledger, Delivery, Module, Bench, sameStream, moduleAt}
+use Rattle.bench.specs.Bench.{isLive, counts, now, bookOf, Which, thePayload, theConfirmation, theAbort, frameOf, ownerOf}
 
 -- a full sending is heard by every other live module; a short one only by those named (of them the live ones other than the sender)
 pub data To : Type 0 where
@@ -78,12 +78,15 @@ enter t s (m ∷ before) (m′ ∷ after) [] = []
 enter t s (m ∷ before) (m′ ∷ after) (row ∷ rows) =
     cond (becamePending s m m′) (pendingSince t ∷ row) row ∷ enter t s before after rows
 
+abbrev pub withAborts : List (List Frame) → Book → Book
+withAborts rows k = record { sender = k .sender; payloadFrame = k .payloadFrame; confirmation = k .confirmation; aborts = rows }
+
 -- an abort belongs to its stream's newest message
 abbrev pub entered : Moment → (before after : List Module) → Ledger → Ledger
 entered t before after l =
     record {
       stream = l .stream;
-      books = onNewest (λ (k : Book). record { sender = k .sender; payloadFrame = k .payloadFrame; confirmation = k .confirmation; aborts = enter t (l .stream) before after (k .aborts) }) (l .books);
+      books = onNewest (λ (k : Book). withAborts (enter t (l .stream) before after (k .aborts)) k) (l .books);
     }
 
 -- the modules moved on; what that made pending is dated by their counts now

@@ -1,13 +1,14 @@
 -- The bench rules 1 to 4, as tests that compute, and what it is for a history to keep them.
-use Prim.Native.Nat.{ℕ, suc, _+_}
-use mathlib.Core.Bool.{Bool, true, false, not, cond, _&&_, _||_}
+use Prim.Native.Nat.{ℕ, _+_}
+use mathlib.Core.Bool.{Bool, true, false, not, _&&_, _||_}
 use mathlib.Core.List.{List, [], _∷_}
 use lib.Dec.{leb}
 use Rattle.wire.specs.declared.ids.Stream.{Stream}
 use Rattle.wire.specs.declared.settings.Settings.{Settings}
 use Rattle.wire.specs.Settings.{isPlain, isTwoMessage}
 use Rattle.bench.specs.Lists.{every, each}
-use Rattle.bench.specs.Bench.{Moment, Sendings, never, sent, Frame, Book, Ledger, Bench, isLive, now, bookOf, settingsOf, Which, thePayload, theConfirmation, theAbort, frameOf, ownerOf}
+use Rattle.bench.specs.Bench.{Moment, never, sent, Frame, Book, Ledger, Bench, isLive, now, bookOf, settingsOf, Which, thePayload}
+use Rattle.bench.specs.Bench.{theConfirmation, theAbort, frameOf, ownerOf}
 use Rattle.bench.specs.Events.{Event, asks, gives, sends, ticks, dies, isNext, step, run}
 
 -- ── what the books say ──

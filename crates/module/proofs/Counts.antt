@@ -1,15 +1,14 @@
 -- After any list of replies, each count of a tally that began at zero is the number of such replies, cut at the most.
-use Prim.Native.Nat.{ℕ, zero, suc, _+_, _≤_, _<_, min}
+use Prim.Native.Nat.{ℕ, zero, suc, _+_, _≤_, _<_}
 use native.Mathlib.Nat.{min-eq-left, min-eq-right}
 use native.Mathlib.Omega.{arith}
 use mathlib.Core.Path.{_≡_, refl, sym, ap, _∙_}
 use mathlib.Core.Bool.{Bool, true, false, cond}
-use mathlib.Core.Logic.{_⊎_, inl, inr}
 use mathlib.Core.List.{List, [], _∷_}
 use lib.ListN.{length, getD, set, replicate, length-set}
 use lib.Seq.{getD-set-same, getD-set-other}
 use lib.Dec.{eqb, ltb}
-use borrow.Author.Tests.{ltb-true, ltb-false, eqb-true, eqb-false, lt-ltb, le-ltb}
+use borrow.Author.Tests.{ltb-true, ltb-false, eqb-true, eqb-false}
 use Rattle.wire.specs.declared.reply.Reply.{Reply}
 use Rattle.wire.specs.Replies.{numberOf, replyCount}
 use Rattle.wire.proofs.Replies.{number-counted}
@@ -44,13 +43,18 @@ module _ (t : Tally) (s : Sound t) (x : Reply) where
   raised-other r n = getD-set-other (t .counts) (numberOf x) (numberOf r) (countOf x t + 1) 0 (λ e. n (sym e))
 
   by-number : (r : Reply) (b : Bool) → eqb (numberOf x) (numberOf r) ≡ b → countOf x t < most → countOf r raised ≤ most
-  by-number r true e h = omega (arith, raised-same r (eqb-true (numberOf x) (numberOf r) e), ap (λ k. getD (t .counts) k 0) (eqb-true (numberOf x) (numberOf r) e))
+  by-number r true e h =
+      let q = eqb-true (numberOf x) (numberOf r) e in
+      omega (arith, raised-same r q, ap (λ k. getD (t .counts) k 0) q)
   by-number r false e h = omega (arith, raised-other r (eqb-false (numberOf x) (numberOf r) e), s .low r)
 
   sound-by : (b : Bool) → ltb (countOf x t) most ≡ b → Sound (tallied t x)
   sound-by true e =
       rw (below e)
-      (record { long = length-set (t .counts) (numberOf x) (countOf x t + 1) ∙ s .long; low = λ r. by-number r (eqb (numberOf x) (numberOf r)) refl (ltb-true (countOf x t) most e) })
+      (record {
+        long = length-set (t .counts) (numberOf x) (countOf x t + 1) ∙ s .long;
+        low = λ r. by-number r (eqb (numberOf x) (numberOf r)) refl (ltb-true (countOf x t) most e);
+      })
   sound-by false e = rw (there e) s
 
   pub stays-sound : Sound (tallied t x)

@@ -2,7 +2,7 @@
 use mathlib.Core.Path.{_≡_, refl, sym, ap, _∙_}
 use Prim.Native.Nat.{ℕ}
 use mathlib.Core.Bool.{Bool, true, false, cond, not}
-use mathlib.Core.List.{List, [], _∷_, _++_}
+use mathlib.Core.List.{List, [], _∷_}
 use lib.ListN.{length, take, drop}
 use lib.Seq.{take-append-seam}
 use lib.Dec.{ltb}
@@ -18,7 +18,7 @@ use Rattle.wire.specs.Delivered.{over}
 use Rattle.node.specs.declared.Node.{Node}
 use Rattle.node.specs.declared.slots.Slot.{Slot}
 use Rattle.node.specs.Slots.{some, isFree, isReceiver, isSender}
-use Rattle.node.specs.Nodes.{Outcome, noId, fresh, hasSlot, slotOf}
+use Rattle.node.specs.Nodes.{Outcome, noId, hasSlot, slotOf}
 use Rattle.node.specs.Clock.{rolled, unbounded}
 use Rattle.node.specs.SetUp as set-up
 use Rattle.node.specs.Hear as hearing
@@ -28,7 +28,7 @@ use Rattle.node.specs.NextFrame as giving
 use Rattle.node.specs.Calls.{Call, setUp, hear, tick, request, nextFrame, outcome, afterFrom, after, Answer, answerOf, answersFrom, answers}
 use Rattle.node.proofs.Rolling.{same-answers}
 use Rattle.module.specs.declared.tally.Tally.{Tally}
-use Rattle.module.specs.Tallies.{none, countOf, tallied, talliedAll, occurrences, capped}
+use Rattle.module.specs.Tallies.{countOf, talliedAll, occurrences, capped}
 use Rattle.module.specs.Histories.{Module, freshModule, moduleStep, moduleAfterFrom, moduleAfter, repliesIn}
 use Rattle.module.specs.Histories.{Returned, Left, Promised, nodeIn, seen, Run, start, next}
 use Rattle.module.proofs.Counts.{counts-replies}

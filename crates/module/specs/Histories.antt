@@ -10,13 +10,13 @@ use Rattle.node.specs.declared.Answered.{Answered}
 use Rattle.node.specs.declared.Delivered.{Delivered}
 use Rattle.node.specs.declared.Given.{Given}
 use Rattle.node.specs.Nodes.{fresh, noId, answered, delivered, given}
-use Rattle.node.specs.Clock.{Clock, rolled}
+use Rattle.node.specs.Clock.{rolled}
 use Rattle.node.specs.SetUp as set-up
 use Rattle.node.specs.Hear as hearing
 use Rattle.node.specs.Tick as ticking
 use Rattle.node.specs.Request as requesting
 use Rattle.node.specs.NextFrame as giving
-use Rattle.node.specs.Calls.{Call, setUp, hear, tick, request, nextFrame, outcome, Answer, answers}
+use Rattle.node.specs.Calls.{Call, setUp, hear, tick, request, nextFrame, outcome, Answer}
 use Rattle.module.specs.declared.tally.Tally.{Tally}
 use Rattle.module.specs.Tallies.{none, tallied}
 

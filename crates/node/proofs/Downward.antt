@@ -1,15 +1,15 @@
 -- Loops that go down through a list: what they have made of it from a place on.
-use mathlib.Core.Path.{_≡_, refl, sym, ap, _∙_}
+use mathlib.Core.Path.{_≡_, refl, ap, _∙_}
 use mathlib.Core.List.{List, [], _∷_, _++_, map, append-nil}
 use Prim.Native.Nat.{ℕ, zero, suc, _≤_, _<_}
 use native.Mathlib.Nat.{le-of-suc-le-suc, not-suc-le-zero}
 use native.Mathlib.Omega.{arith}
-use lib.ListN.{length, take, drop, getD, set, replicate, drop-of-length-le, length-map}
-use lib.Seq.{take-all}
+use lib.ListN.{length, take, drop, getD, set, replicate, drop-of-length-le}
+use lib.Seq.{take-all, drop-cons}
 
--- an array of structs is handed over with the length of what it is made of
-pub length-of-mapped : (X Y : Type 0) (f : X → Y) (l : List X) (n : ℕ) → length (map f l) ≡ n → length l ≡ n
-length-of-mapped X Y f l n p = sym (length-map l f) ∙ p
+-- one step down
+pub step-down : {A : Type 0} (l : List A) (i j : ℕ) (d : A) → suc j ≡ i → i ≤ length l → drop j l ≡ getD l j d ∷ drop i l
+step-down l i j d e h = drop-cons l j d (omega arith) ∙ ap (λ (k : ℕ). getD l j d ∷ drop k l) e
 
 -- another list is filled from its end, with what f makes of the elements
 module _ {A B : Type 0} (f : A → B) (z : B) where

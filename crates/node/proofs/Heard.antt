@@ -1,17 +1,15 @@
 -- Hearing a frame: what a frame that is not bad has, and what hear comes to on each way through its refusals.
 use mathlib.Core.Path.{_≡_, sym, _∙_}
-use mathlib.Core.Bool.{true, false, not, _||_}
+use mathlib.Core.Bool.{true, false}
 use mathlib.Core.List.{List}
 use Prim.Native.Nat.{ℕ, _≤_, _<_}
-use native.Mathlib.Omega.{arith}
-use borrow.Author.Tests.{lt-ltb, le-ltb, ltb-false, eqb-true, le-leb, not-false}
+use borrow.Author.Tests.{lt-ltb, le-ltb, le-leb}
 use lib.ListN.{length, getD, set}
-use lib.Dec.{eqb, ltb}
 use Rattle.wire.specs.declared.ids.BusId.{BusId}
 use Rattle.wire.specs.declared.reply.Reply.the-variants.{Done, BadFrame, NotMine, Misfit, Clash, ShortOutput}
 use Rattle.wire.specs.Identifiers.{maxBusId, streamOf, codeOf, split}
 use Rattle.wire.specs.Classes.{carries}
-use Rattle.wire.specs.Frames.{maxPayload, unwantedPayload, badFrame}
+use Rattle.wire.specs.Frames.{badFrame}
 use Rattle.node.specs.declared.slots.Slot.{Slot}
 use Rattle.node.specs.declared.Node.{Node}
 use Rattle.node.specs.Slots.{empty, isOf, isReceiver, indexOf}

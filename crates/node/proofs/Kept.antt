@@ -1,19 +1,18 @@
 -- What every reached node keeps is kept by every call.
 use Prim.Native.Nat.{ℕ, _+_, _-_, _≤_}
-use native.Mathlib.Omega.{arith}
 use mathlib.Core.Path.{_≡_, refl, _∙_}
-use mathlib.Core.Bool.{true, false, not, _||_, and-eq-true-iff}
+use mathlib.Core.Bool.{true, not, and-eq-true-iff}
 use mathlib.Core.List.{List, [], _∷_}
 use lib.ListN.{length, length-map}
-use lib.Dec.{eqb, ltb}
-use borrow.Author.Tests.{ltb-false, eqb-true, not-false}
+use lib.Dec.{ltb}
+use borrow.Author.Tests.{ltb-false, not-false}
 use Rattle.wire.specs.declared.ids.Stream.{Stream}
 use Rattle.wire.specs.declared.ids.BusId.{BusId}
 use Rattle.wire.specs.declared.settings.Settings.{Settings}
 use Rattle.wire.specs.Settings.{legal}
 use Rattle.wire.specs.Identifiers.{maxBusId, streamOf, codeOf}
 use Rattle.wire.specs.Classes.{carries}
-use Rattle.wire.specs.Frames.{maxPayload, unwantedPayload, badFrame}
+use Rattle.wire.specs.Frames.{maxPayload, badFrame}
 use Rattle.wire.proofs.Frames.{frame-length}
 use Rattle.node.specs.declared.slots.Slot.{Slot}
 use Rattle.node.specs.declared.Node.{Node}
@@ -27,7 +26,7 @@ use Rattle.node.specs.Request.{request, requested, busy}
 use Rattle.node.specs.NextFrame.{nextFrame, give, givenOut, lowest, pendingIds, nextRoom}
 use Rattle.node.specs.Calls.{Call, outcome, afterFrom, after}
 use Rattle.node.specs.Reachable.{KeptSlot, Kept}
-use Rattle.node.proofs.Choices.{unless, neither}
+use Rattle.node.proofs.Choices.{unless}
 use Rattle.node.proofs.Table.{length-on-first, all-map, all-replicate, all-first, all-on-first}
 use Rattle.node.proofs.Streams.{KeepsKind, heard-keeps, lapsed-keeps, requested-keeps, given-out-keeps, distinct-fresh, distinct-map}
 use Rattle.node.proofs.Streams.{distinct-on-first, distinct-set-up}

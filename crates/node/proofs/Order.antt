@@ -15,14 +15,8 @@ use Rattle.node.specs.Tick.{due, place, ageOf, dueSlots}
 use Rattle.node.specs.Selection.{keyOf, leastAt}
 use Rattle.node.specs.Reachable.{All}
 use Rattle.node.proofs.Ascending.{Before, Ascends}
-use Rattle.node.proofs.Selecting.{
-  low-key-is-not-before,
-  high-key-is-not-before,
-  key-is-before,
-  only-key-is-before,
-  least-is-here,
-  least-is-later,
-}
+use Rattle.node.proofs.Selecting.{low-key-is-not-before, high-key-is-not-before, key-is-before, only-key-is-before, least-is-here}
+use Rattle.node.proofs.Selecting.{least-is-later}
 
 at-most-or-above : (a b : ℕ) → (a ≤ b) ⊎ (b < a)
 at-most-or-above a b = go (leb a b) refl

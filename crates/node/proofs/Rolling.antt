@@ -17,7 +17,7 @@ use Rattle.node.specs.declared.slots.Message.{Message}
 use Rattle.node.specs.declared.slots.Slot.{Slot}
 use Rattle.node.specs.declared.Node.{Node}
 use Rattle.node.specs.Slots.{restamped, isOf, isFree, isReceiver, isSender, withParts, withMessage, some}
-use Rattle.node.specs.Nodes.{Outcome, fresh, hasSlot, slotOf, onSlot, done}
+use Rattle.node.specs.Nodes.{fresh, hasSlot, slotOf, onSlot, done}
 use Rattle.node.specs.Clock.{turn, unbounded, rolled}
 use Rattle.node.specs.SetUp.{setUp, slotFor}
 use Rattle.node.specs.Hear.{clashes, heardBy, deliveredAtOnce, hearAt, hear, hearRoom}

@@ -1,14 +1,14 @@
 -- The place of the least key: when a key comes before the best of those after it, and the turns of the loop that looks
 -- for the least.
-use mathlib.Core.Path.{_≡_, refl, ap, _∙_}
+use mathlib.Core.Path.{_≡_}
 use mathlib.Core.Bool.{true, false, or-true}
-use mathlib.Core.List.{List, [], _∷_}
+use mathlib.Core.List.{List, _∷_}
 use Prim.Native.Nat.{ℕ, suc, _+_, _≤_, _<_}
 use native.Mathlib.Omega.{arith}
 use borrow.Author.Tests.{le-leb, lt-leb, ne-eqb}
 use lib.ListN.{length, drop, getD, drop-of-length-le}
-use lib.Seq.{drop-cons}
 use Rattle.node.specs.Selection.{before, leastAt}
+use Rattle.node.proofs.Downward.{step-down}
 
 module _ (from key best : ℕ) where
   pub low-key-is-not-before : key < from → before from key best ≡ false
@@ -51,7 +51,7 @@ best-of-all from keys i place best h b =
 
 module _ (from : ℕ) (keys : List ℕ) (i j place best : ℕ) (e : suc j ≡ i) (h : i ≤ length keys) (b : Best from keys i place best) where
   one-more : drop j keys ≡ getD keys j 0 ∷ drop i keys
-  one-more = drop-cons keys j 0 (omega arith) ∙ ap (λ (k : ℕ). getD keys j 0 ∷ drop k keys) e
+  one-more = step-down keys i j 0 e h
 
   pub best-is-here : before from (getD keys j 0) best ≡ true → Best from keys j j (getD keys j 0)
   unfolding leastAt

@@ -1,21 +1,20 @@
 -- The outcomes of a tick, from what its code did.
-use mathlib.Core.Path.{_≡_, refl, ap, _∙_}
+use mathlib.Core.Path.{_≡_}
 use mathlib.Core.Bool.{false}
-use mathlib.Core.List.{List, [], map}
+use mathlib.Core.List.{List, map}
 use Prim.Native.Nat.{ℕ, _<_, _≤_}
 use borrow.Author.Tests.{lt-ltb, le-ltb}
 use lib.ListN.{length}
 use Rattle.wire.specs.declared.reply.Reply.the-variants.{Done, ShortOutput}
 use Rattle.wire.specs.Delivered.{over}
-use Rattle.node.specs.declared.slots.Slot.{Slot}
 use Rattle.node.specs.declared.Node.{Node}
 use Rattle.node.specs.declared.Delivered.{Delivered}
 use Rattle.node.specs.Slots.{some}
 use Rattle.node.specs.Nodes.{delivered}
-use Rattle.node.specs.Clock.{Clock, rolled, unbounded}
+use Rattle.node.specs.Clock.{Clock, rolled}
 use Rattle.node.specs.Tick.{tickSlot, dueSlots, recordsFrom, tick}
-use Rattle.node.specs.Calls.{Call, after, rollOutcome}
-use Rattle.node.proofs.Unbounded.{promised-exact}
+use Rattle.node.specs.Calls.{Call}
+use Rattle.node.proofs.Unbounded.{PromisedWritten, promised-exact}
 use Rattle.node.proofs.Turns.{stirsAt, still-tick}
 
 -- the answer, and what stands in the output, are those of the definition
@@ -23,13 +22,10 @@ abbrev pub Ticked : Clock → Node → (output : List ℕ) → Delivered → (le
 Ticked clock n output r left =
     (r ≡ delivered (tick clock output n)) × (left ≡ over (tick clock output n .bytes) output)
 
--- what the code does with counts that roll over is also what the definition says of counts without bound
-pub unbounded-too : (n : Node) (output : List ℕ) (r : Delivered) (left : List ℕ) → Ticked rolled n output r left
-    → Ticked rolled n output r left
-    × ((h : List Call) → n ≡ after rolled h
-    → (r ≡ delivered (rollOutcome (tick unbounded output (after unbounded h))))
-    × (left ≡ over (tick unbounded output (after unbounded h) .bytes) output))
-unbounded-too n output r left t = promised-exact (Call.tick output) n delivered output t
+-- what holds with counts that roll over holds with counts without bound too
+pub exact-and-unbounded : (n : Node) (output : List ℕ) (r : Delivered) (left : List ℕ) → Ticked rolled n output r left
+    → PromisedWritten (Call.tick output) n delivered output r left
+exact-and-unbounded n output r left t = promised-exact (Call.tick output) n delivered output t
 
 module _ (clock : Clock) (n : Node) (output : List ℕ) where
   pub tick-refused : length output < 512 → Ticked clock n output (record { node = n; reply = ShortOutput; written = 0 }) output

@@ -5,7 +5,6 @@ use mathlib.Core.List.{List, [], _∷_, _++_}
 use lib.ListN.{length, take, drop, replicate}
 use lib.Dec.{eqb}
 use Rattle.wire.specs.declared.ids.Stream.{Stream}
-use Rattle.wire.specs.declared.settings.Settings.{Settings}
 use Rattle.wire.specs.Settings.{receives, sends}
 use Rattle.wire.specs.Frames.{maxPayload}
 use Rattle.node.specs.declared.slots.Message.{Message}

@@ -12,30 +12,12 @@ use lib.ListN.{length}
 use Rattle.node.specs.declared.slots.Slot.{Slot}
 use Rattle.node.specs.Slots.{nonePending}
 use Rattle.node.specs.Clock.{rolled}
-use Rattle.node.proofs.Downward.{length-of-mapped}
+use Rattle.node.proofs.Finding.{length-of-mapped}
 use Rattle.node.proofs.Stirring.{unheld-is-still}
-use Rattle.node.proofs.Turns.{
-  Looked,
-  looked-at-first,
-  looked-at-still,
-  looked-at-stirring,
-  looked-through,
-  key-count,
-  Delivering,
-  delivering-at-first,
-  delivering-one-more,
-  delivering-keeps-length,
-  next-counts,
-  next-has-room,
-  written-is-small,
-  all-delivered,
-  Lapsing,
-  lapsing-at-first,
-  lapsing-one-more,
-  lapsing-one-kept,
-  all-lapsed,
-}
-use Rattle.node.proofs.Ticks.{unbounded-too, tick-refused, tick-done, tick-still}
+use Rattle.node.proofs.Turns.{Looked, looked-at-first, looked-at-still, looked-at-stirring, looked-at-all, as-many-keys, Delivering}
+use Rattle.node.proofs.Turns.{delivering-at-first, delivering-one-more, delivering-keeps-length, next-counts, next-has-room, written-is-small}
+use Rattle.node.proofs.Turns.{all-delivered, Lapsing, lapsing-at-first, lapsing-one-more, lapsing-one-kept, all-lapsed}
+use Rattle.node.proofs.Ticks.{exact-and-unbounded, tick-refused, tick-done, tick-still}
 use Rattle.node.proofs.Node.tick.Statement.{statement}
 use Rattle.node.proofs.Node.tick.Tie as tie
 
@@ -51,29 +33,26 @@ noSlot =
     }
 
 abbrev Inv-loop : tie.InvT-loop
-Inv-loop out self now keys₀ stirring₀ i₀ keys stirring i =
-    (i ≤ 32) × (length (self .slots) ≡ 32) × Looked rolled now (self .slots) i keys stirring
+Inv-loop out self now keys₀ stirring₀ i₀ keys stirring i = Looked rolled now (self .slots) i keys stirring
 
 abbrev μ-loop : tie.MeasureT-loop
 μ-loop out self now keys₀ stirring₀ i₀ keys stirring i = i
 
 abbrev Inv-loop2 : tie.InvT-loop2
-Inv-loop2 out₀ self now keys stirring i at₀ from₀ place₀ out at from place =
-    Delivering rolled now (self .slots) keys out₀ out at from place
+Inv-loop2 out₀ self now keys stirring i at₀ from₀ place₀ out at from place = Delivering rolled now (self .slots) keys out₀ out at from place
 
 abbrev μ-loop2 : tie.MeasureT-loop2
 μ-loop2 out₀ self now keys stirring i at₀ from₀ place₀ out at from place = 4294967298 - from
 
 abbrev Inv-loop3 : tie.InvT-loop3
-Inv-loop3 out self₀ now stirring i at from place j₀ self j =
-    (j ≤ 32) × (length (self₀ .slots) ≡ 32) × Lapsing rolled now self₀ self j
+Inv-loop3 out self₀ now stirring i at from place j₀ self j = Lapsing rolled now self₀ self j
 
 abbrev μ-loop3 : tie.MeasureT-loop3
 μ-loop3 out self₀ now stirring i at from place j₀ self j = j
 
 -- ── refused ──
 returns : tie.Need-returns Inv-loop μ-loop Inv-loop2 μ-loop2 Inv-loop3 μ-loop3
-returns c = unbounded-too _ _ _ _ (tick-refused rolled _ _ (omega arith))
+returns c = exact-and-unbounded _ _ _ _ (tick-refused rolled _ _ (omega arith))
 
 -- ── looking ──
 next-requires : tie.Need-next-requires Inv-loop μ-loop Inv-loop2 μ-loop2 Inv-loop3 μ-loop3
@@ -81,9 +60,8 @@ next-requires c κs = search needs
 
 loop-holds : tie.Need-loop-holds Inv-loop μ-loop Inv-loop2 μ-loop2 Inv-loop3 μ-loop3
 loop-holds c =
-    let slots = c .before .before .before .args .t1 .slots in
-    let many : length slots ≡ 32 = search (length-of-mapped, needs) in
-    (omega arith, many, looked-at-first rolled (c .next .result) slots 32 many)
+    let many : length (c .before .before .before .args .t1 .slots) ≡ 32 = search (length-of-mapped, needs) in
+    looked-at-first rolled _ _ many
 
 sub-i : tie.Need-sub-i Inv-loop μ-loop Inv-loop2 μ-loop2 Inv-loop3 μ-loop3
 sub-i c = search needs
@@ -114,56 +92,44 @@ loop-less c = search needs
 
 loop-again : tie.Need-loop-again Inv-loop μ-loop Inv-loop2 μ-loop2 Inv-loop3 μ-loop3
 loop-again c =
-    let l = c .before .before .before .before .before .before .before .before .loop in
-    let stirs = sym (c .before .before .stirs .ensures) ∙ c .before .if3 .taken in (
-      omega arith,
-      l .inv .1,
-      looked-at-stirring rolled _ _ (l .i) _ _ (omega arith) (omega arith) _ _ _ (c .before .before .before .age .ensures) (l .inv .2) stirs _ (c .key .ensures),
-    )
+    let l = c .before .before .before .before .before .before .before .before .loop .inv in
+    let stirs = sym (c .before .before .stirs .ensures) ∙ c .before .if3 .taken in
+    looked-at-stirring rolled _ l _ _ (omega arith) _ (c .before .before .before .age .ensures) stirs _ (c .key .ensures)
 
 loop-less-2 : tie.Need-loop-less-2 Inv-loop μ-loop Inv-loop2 μ-loop2 Inv-loop3 μ-loop3
 loop-less-2 c = search needs
 
 loop-again-2 : tie.Need-loop-again-2 Inv-loop μ-loop Inv-loop2 μ-loop2 Inv-loop3 μ-loop3
 loop-again-2 c =
-    let l = c .before .before .before .before .before .before .before .loop in
-    let still = sym (c .before .stirs .ensures) ∙ c .if3 .left in (
-      omega arith,
-      l .inv .1,
-      looked-at-still rolled _ _ (l .i) _ _ (omega arith) (omega arith) _ _ _ (c .before .before .age .ensures) (l .inv .2) still,
-    )
+    let l = c .before .before .before .before .before .before .before .loop .inv in
+    let still = sym (c .before .stirs .ensures) ∙ c .if3 .left in
+    looked-at-still rolled _ l _ _ (omega arith) _ (c .before .before .age .ensures) still
 
 loop-less-3 : tie.Need-loop-less-3 Inv-loop μ-loop Inv-loop2 μ-loop2 Inv-loop3 μ-loop3
 loop-less-3 c = search needs
 
 loop-again-3 : tie.Need-loop-again-3 Inv-loop μ-loop Inv-loop2 μ-loop2 Inv-loop3 μ-loop3
 loop-again-3 c =
-    let l = c .before .before .before .before .loop in (
-      omega arith,
-      l .inv .1,
-      looked-at-still rolled _ _ (l .i) _ _ (omega arith) (omega arith) _ _ _ refl (l .inv .2) (unheld-is-still _ _ (c .if2 .left)),
-    )
+    looked-at-still rolled _ (c .before .before .before .before .loop .inv) _ _ (omega arith) _ refl (unheld-is-still _ _ (c .if2 .left))
 
 -- ── nothing stirs ──
 returns-2 : tie.Need-returns-2 Inv-loop μ-loop Inv-loop2 μ-loop2 Inv-loop3 μ-loop3
 returns-2 c =
-    let l = c .before .before .loop in
-    let still = sym (looked-through rolled _ _ (l .i) _ _ (omega arith) (l .inv .2) .1) ∙ not-true _ (c .if4 .taken) in
-    unbounded-too _ _ _ _ (tick-still rolled _ _ (omega arith) _ (c .before .before .before .next .ensures) still)
+    let still = sym (looked-at-all rolled _ (c .before .before .loop .inv) (omega arith) .1) ∙ not-true _ (c .if4 .taken) in
+    exact-and-unbounded _ _ _ _ (tick-still rolled _ _ (omega arith) _ (c .before .before .before .next .ensures) still)
 
 -- ── delivering ──
 least-requires : tie.Need-least-requires Inv-loop μ-loop Inv-loop2 μ-loop2 Inv-loop3 μ-loop3
-least-requires c κs = let l = c .before .before .before .loop in key-count rolled _ _ (l .i) _ _ (omega arith) (l .inv .2) (l .inv .1)
+least-requires c κs = as-many-keys rolled _ (c .before .before .before .loop .inv) (omega arith)
 
 loop2-holds : tie.Need-loop2-holds Inv-loop μ-loop Inv-loop2 μ-loop2 Inv-loop3 μ-loop3
 loop2-holds c =
-    let l = c .before .before .before .before .loop in
-    let keys-are = looked-through rolled _ _ (l .i) _ _ (omega arith) (l .inv .2) .0 in
-    delivering-at-first rolled _ _ _ _ _ (l .inv .1) (omega arith) keys-are (c .least .ensures)
+    let l = c .before .before .before .before .loop .inv in
+    delivering-at-first rolled _ _ _ _ _ (l .many) (omega arith) (looked-at-all rolled _ l (omega arith) .0) (c .least .ensures)
 
 -- the longest record fits behind those that are written
 room : (c : tie.In-loop2 Inv-loop μ-loop Inv-loop2 μ-loop2 Inv-loop3 μ-loop3) → c .before .loop2 .at + 16 ≤ length (c .before .loop2 .out)
-room c = next-has-room rolled _ _ _ _ _ _ _ _ (c .before .loop2 .inv) noSlot (c .loop2-test .taken)
+room c = next-has-room (c .before .loop2 .inv) noSlot (c .loop2-test .taken)
 
 mul-slot-2 : tie.Need-mul-slot-2 Inv-loop μ-loop Inv-loop2 μ-loop2 Inv-loop3 μ-loop3
 mul-slot-2 c = search needs
@@ -190,9 +156,8 @@ add-at : tie.Need-add-at Inv-loop μ-loop Inv-loop2 μ-loop2 Inv-loop3 μ-loop3
 add-at c =
     let d = c .before .before .before .before .before .before .before in
     let bytes = c .before .before .before .before .all-bytes .ensures in
-    let small = written-is-small rolled _ _ _ _ _ _ _ _ (d .before .loop2 .inv) noSlot (d .loop2-test .taken) _ (bytes .0) (bytes .1) _
-    (c .before .before .write-record .ensures .0) in
-    omega (arith, room d)
+    let write = c .before .before .write-record .ensures in
+    omega (arith, room d, written-is-small (d .before .loop2 .inv) noSlot (d .loop2-test .taken) _ bytes _ (write .0))
 
 wide32-requires : tie.Need-wide32-requires Inv-loop μ-loop Inv-loop2 μ-loop2 Inv-loop3 μ-loop3
 wide32-requires c κs = search needs
@@ -201,25 +166,25 @@ add-from : tie.Need-add-from Inv-loop μ-loop Inv-loop2 μ-loop2 Inv-loop3 μ-lo
 add-from c = search needs
 
 least-requires-2 : tie.Need-least-requires-2 Inv-loop μ-loop Inv-loop2 μ-loop2 Inv-loop3 μ-loop3
-least-requires-2 c κs = let l = c .before .before .before .before .before .before .before .before .before .before .before .before .before .before .before .loop in key-count rolled _ _ (l .i) _ _ (omega arith) (l .inv .2) (l .inv .1)
+least-requires-2 c κs =
+    let l = c .before .before .before .before .before .before .before .before .before .before .before .before .before .before .before .loop .inv in
+    as-many-keys rolled _ l (omega arith)
 
 loop2-less : tie.Need-loop2-less Inv-loop μ-loop Inv-loop2 μ-loop2 Inv-loop3 μ-loop3
 loop2-less c =
     let d = c .before .before .before .before .before .before .before .before .before .before in
-    omega (arith, next-counts rolled _ _ _ _ _ _ _ _ (d .before .loop2 .inv) noSlot (d .loop2-test .taken))
+    omega (arith, next-counts (d .before .loop2 .inv) noSlot (d .loop2-test .taken))
 
 loop2-again : tie.Need-loop2-again Inv-loop μ-loop Inv-loop2 μ-loop2 Inv-loop3 μ-loop3
 loop2-again c =
     let d = c .before .before .before .before .before .before .before .before .before .before in
     let bytes = c .before .before .before .before .before .before .before .all-bytes .ensures in
     let write = c .before .before .before .before .before .write-record .ensures in
-    let stream = c .before .before .wide32 .ensures in
-    delivering-one-more rolled _ _ _ _ _ _ _ _ (d .before .loop2 .inv) noSlot (d .loop2-test .taken) _ (bytes .0) (bytes .1) _ _ _ _
-    (write .0) (write .1) (stream .0) (stream .1) (c .least2 .ensures)
+    delivering-one-more (d .before .loop2 .inv) noSlot (d .loop2-test .taken) _ bytes _ _ _ _ write (c .before .before .wide32 .ensures) (c .least2 .ensures)
 
 -- ── lapsing ──
 loop3-holds : tie.Need-loop3-holds Inv-loop μ-loop Inv-loop2 μ-loop2 Inv-loop3 μ-loop3
-loop3-holds c = let l = c .before .before .before .before .before .before .loop in (omega arith, l .inv .1, lapsing-at-first rolled _ _ 32 (l .inv .1))
+loop3-holds c = lapsing-at-first rolled _ _ (c .before .before .before .before .before .before .loop .inv .many)
 
 sub-j : tie.Need-sub-j Inv-loop μ-loop Inv-loop2 μ-loop2 Inv-loop3 μ-loop3
 sub-j c = search needs
@@ -250,47 +215,35 @@ loop3-less c = search needs
 
 loop3-again : tie.Need-loop3-again Inv-loop μ-loop Inv-loop2 μ-loop2 Inv-loop3 μ-loop3
 loop3-again c =
-    let l = c .before .before .before .before .before .before .before .before .loop3 in (
-      omega arith,
-      l .inv .1,
-      lapsing-one-more rolled _ _ (l .self) (l .j) _ noSlot (omega arith) (omega arith) (l .inv .2) _ (c .before .before .before .age2 .ensures) _
-          (c .lapsed .ensures),
-    )
+    let l = c .before .before .before .before .before .before .before .before .loop3 .inv in
+    lapsing-one-more l _ noSlot (omega arith) _ (c .before .before .before .age2 .ensures) _ (c .lapsed .ensures)
 
 loop3-less-2 : tie.Need-loop3-less-2 Inv-loop μ-loop Inv-loop2 μ-loop2 Inv-loop3 μ-loop3
 loop3-less-2 c = search needs
 
 loop3-again-2 : tie.Need-loop3-again-2 Inv-loop μ-loop Inv-loop2 μ-loop2 Inv-loop3 μ-loop3
 loop3-again-2 c =
-    let l = c .before .before .before .before .before .before .before .loop3 in
-    let still = sym (c .before .stirs2 .ensures) ∙ c .if6 .left in (
-      omega arith,
-      l .inv .1,
-      lapsing-one-kept rolled _ _ (l .self) (l .j) _ noSlot (omega arith) (omega arith) (l .inv .2) _ (c .before .before .age2 .ensures) still,
-    )
+    let l = c .before .before .before .before .before .before .before .loop3 .inv in
+    let still = sym (c .before .stirs2 .ensures) ∙ c .if6 .left in
+    lapsing-one-kept l _ noSlot (omega arith) _ (c .before .before .age2 .ensures) still
 
 loop3-less-3 : tie.Need-loop3-less-3 Inv-loop μ-loop Inv-loop2 μ-loop2 Inv-loop3 μ-loop3
 loop3-less-3 c = search needs
 
 loop3-again-3 : tie.Need-loop3-again-3 Inv-loop μ-loop Inv-loop2 μ-loop2 Inv-loop3 μ-loop3
 loop3-again-3 c =
-    let l = c .before .before .before .before .loop3 in
-    let still = unheld-is-still _ _ (c .if5 .left) in (
-      omega arith,
-      l .inv .1,
-      lapsing-one-kept rolled _ _ (l .self) (l .j) _ noSlot (omega arith) (omega arith) (l .inv .2) _ refl still,
-    )
+    lapsing-one-kept (c .before .before .before .before .loop3 .inv) _ noSlot (omega arith) _ refl (unheld-is-still _ _ (c .if5 .left))
 
 -- ── done ──
 same-length : tie.Need-same-length Inv-loop μ-loop Inv-loop2 μ-loop2 Inv-loop3 μ-loop3
-same-length c = delivering-keeps-length rolled _ _ _ _ _ _ _ _ (c .before .before .before .loop2 .inv)
+same-length c = delivering-keeps-length (c .before .before .before .loop2 .inv)
 
 returns-3 : tie.Need-returns-3 Inv-loop μ-loop Inv-loop2 μ-loop2 Inv-loop3 μ-loop3
 returns-3 c =
-    let l = c .before .loop3 in
-    let node = all-lapsed rolled _ _ (l .self) (l .j) (omega arith) (l .inv .2) in
-    let records = all-delivered rolled _ _ _ _ _ _ _ _ (c .before .before .before .loop2 .inv) (c .before .before .loop2-test .left) in
-    unbounded-too _ _ _ _ (tick-done rolled _ _ (omega arith) _ (c .before .before .before .before .before .before .before .before .before .next .ensures) (l .self) _ _ node records)
+    let node = all-lapsed (c .before .loop3 .inv) (omega arith) in
+    let records = all-delivered (c .before .before .before .loop2 .inv) (c .before .before .loop2-test .left) in
+    let counter = c .before .before .before .before .before .before .before .before .before .next .ensures in
+    exact-and-unbounded _ _ _ _ (tick-done rolled _ _ (omega arith) _ counter _ _ _ node records)
 
 pub tick-spec : {M : Type 1} → statement M
 tick-spec =

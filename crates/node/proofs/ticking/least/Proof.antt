@@ -1,3 +1,4 @@
+-- `least` meets its contract. The loop goes down through the keys with the place of the least of those passed, and its key.
 use borrow.Author.Needs.{needs}
 use native.Mathlib.Omega.{arith}
 use mathlib.Core.Path.{_≡_}
@@ -6,8 +7,6 @@ use lib.ListN.{length}
 use Rattle.node.proofs.Selecting.{Best, best-of-none, best-of-all, best-is-here, best-is-later}
 use Rattle.node.proofs.ticking.least.Statement.{statement}
 use Rattle.node.proofs.ticking.least.Tie as tie
-use Rattle.node.proofs.ticking.least.Reads as reads
-use Rattle.node.proofs.ticking.least.Lts as lts
 
 abbrev Inv-loop : tie.InvT-loop
 Inv-loop keys from place₀ best₀ i₀ place best i = (i ≤ 32) × (length keys ≡ 32) × Best from keys i place best
@@ -15,43 +14,34 @@ Inv-loop keys from place₀ best₀ i₀ place best i = (i ≤ 32) × (length ke
 abbrev μ-loop : tie.MeasureT-loop
 μ-loop keys from place₀ best₀ i₀ place best i = i
 
--- src/ticking.rt:135:5
 loop-holds : tie.Need-loop-holds Inv-loop μ-loop
 loop-holds c = (search needs, c .pre, best-of-none _ _ 32 (c .pre))
 
--- src/ticking.rt:136:9
 sub-i : tie.Need-sub-i Inv-loop μ-loop
 sub-i c = search needs
 
--- src/ticking.rt:137:19
 mul-key : tie.Need-mul-key Inv-loop μ-loop
 mul-key c = search needs
 
--- src/ticking.rt:137:19
 element-copy-out-key : tie.Need-element-copy-out-key Inv-loop μ-loop
 element-copy-out-key c = search needs
 
--- src/ticking.rt:135:5
 loop-less : tie.Need-loop-less Inv-loop μ-loop
 loop-less c = search needs
 
--- src/ticking.rt:135:5
 loop-again : tie.Need-loop-again Inv-loop μ-loop
 loop-again c =
     let l = c .before .before .before .loop in
     (omega arith, l .inv .1, best-is-here _ _ (l .i) _ _ _ (omega arith) (omega arith) (l .inv .2) (c .if1 .taken))
 
--- src/ticking.rt:135:5
 loop-less-2 : tie.Need-loop-less-2 Inv-loop μ-loop
 loop-less-2 c = search needs
 
--- src/ticking.rt:135:5
 loop-again-2 : tie.Need-loop-again-2 Inv-loop μ-loop
 loop-again-2 c =
     let l = c .before .before .before .loop in
     (omega arith, l .inv .1, best-is-later _ _ (l .i) _ _ _ (omega arith) (omega arith) (l .inv .2) (c .if1 .left))
 
--- src/ticking.rt:129:1
 returns : tie.Need-returns Inv-loop μ-loop
 returns c = best-of-all _ _ (c .before .loop .i) _ _ (omega arith) (c .before .loop .inv .2)
 
