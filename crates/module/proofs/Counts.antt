@@ -30,11 +30,11 @@ module _ (t : Tally) (s : Sound t) (x : Reply) where
 
   below : ltb (countOf x t) most ≡ true → tallied t x ≡ raised
   unfolding tallied
-  below e = rw e
+  below e = ap (λ (b : Bool). cond b raised t) e
 
   there : ltb (countOf x t) most ≡ false → tallied t x ≡ t
   unfolding tallied
-  there e = rw e
+  there e = ap (λ (b : Bool). cond b raised t) e
 
   raised-same : (r : Reply) → numberOf x ≡ numberOf r → countOf r raised ≡ countOf r t + 1
   raised-same r e = rw (← e) (getD-set-same (t .counts) (numberOf x) (countOf x t + 1) 0 place)
@@ -44,8 +44,7 @@ module _ (t : Tally) (s : Sound t) (x : Reply) where
 
   by-number : (r : Reply) (b : Bool) → eqb (numberOf x) (numberOf r) ≡ b → countOf x t < most → countOf r raised ≤ most
   by-number r true e h =
-      let q = eqb-true (numberOf x) (numberOf r) e in
-      omega (arith, raised-same r q, ap (λ k. getD (t .counts) k 0) q)
+      let q : numberOf x ≡ numberOf r = eqb-true (numberOf x) (numberOf r) e in omega (arith, raised-same r q, ap (λ k. getD (t .counts) k 0) q)
   by-number r false e h = omega (arith, raised-other r (eqb-false (numberOf x) (numberOf r) e), s .low r)
 
   sound-by : (b : Bool) → ltb (countOf x t) most ≡ b → Sound (tallied t x)

@@ -153,8 +153,11 @@ pub record Faithful (calls : List Call) (xs : List Answer) (end : Module) : Type
 pub every-history : {calls : List Call} {xs : List Answer} {end : Module} → Run freshModule calls xs end → Faithful calls xs end
 every-history {calls} {xs} {end} run =
     let saw : xs ≡ answers rolled calls = run-answers run in
+    let ends : end ≡ moduleAfter calls = run-end run in
     record {
       answered = saw ∙ same-answers calls;
-      node = ap (λ (m : Module). m .node) (run-end run) ∙ module-node calls;
-      counted = λ r. ap (λ (m : Module). countOf r (m .tally)) (run-end run) ∙ (module-counts calls r ∙ ap (λ (l : List Answer). capped (occurrences r (repliesIn l))) (sym saw));
+      node = ap (λ (m : Module). m .node) ends ∙ module-node calls;
+      counted = λ r.
+          ap (λ (m : Module). countOf r (m .tally)) ends
+          ∙ (module-counts calls r ∙ ap (λ (l : List Answer). capped (occurrences r (repliesIn l))) (sym saw));
     }

@@ -11,6 +11,7 @@ use contract.Monad.{Fun, fact}
 use denote.Ref.{now}
 use denote.Triple.Clauses.{AtExit}
 use denote.Triple.Entry.{Args, Res}
+use Rattle.wire.specs.declared.reply.Reply.{Reply}
 use Rattle.wire.proofs.Unique.{OneAnswer, same}
 use Rattle.node.specs.Calls.{Call, setUp, hear, tick, request, nextFrame}
 use Rattle.module.specs.declared.tally.Tally.{Tally}
@@ -31,6 +32,10 @@ zero-unique l input a b s t = same
 pub counted-unique : OneAnswer counted.Post
 counted-unique l input a b s t = same
 
+-- what `count` makes of the lent tally
+pub count-unique : (t : Tally) (reply : Reply) (w w′ : Tally) → w ≡ tallied t reply → w′ ≡ tallied t reply → w ≡ w′
+count-unique t reply w w′ = same
+
 -- what a call returns, what it leaves in the lent output, and what it makes of the lent tally
 pub promised-unique : (c : Call) (m : Module) (r r′ : Returned c) (left left′ : Left c) (t t′ : Tally)
     → Promised c m r left t → Promised c m r′ left′ t′ → (r ≡ r′) × (left ≡ left′) × (t ≡ t′)
@@ -40,7 +45,7 @@ promised-unique (tick output) m r r′ left left′ t t′ p q = (same (p .0) (q
 promised-unique (request s payload) m r r′ left left′ t t′ p q = (same (p .0) (q .0), refl, same (p .1) (q .1))
 promised-unique (nextFrame output) m r r′ left left′ t t′ p q = (same (p .0) (q .0), same (p .1) (q .1), same (p .2) (q .2))
 
--- ── `Promised` is what the sources say ──
+-- ── these are the promises of the sources ──
 -- the contract of each function that is lent the tally, as it is read from its source: `a` is what it is passed, `e` what is behind
 -- its parameters at the exit
 module _ {M : Type 1} (𝓤 : URA M) (H : Heap 𝓤) (A : Atoms 𝓤) (mem : Memory → SProp 𝓤) (run : Routine → Fun 𝓤) where

@@ -21,7 +21,8 @@ ghost use Rattle.module.specs.Tallies.{tallied};
 
 // Gives a stream a slot, with its settings.
 pub fn set_up(node: Node, stream: Stream, settings: Settings, tally: &mut Tally) -> Answered
-    ensures { λ r. ⌜ (r ≡ answered (setUp stream settings node)) × (now (tally .exit) ≡ tallied (now (tally .entry)) (setUp stream settings node .reply)) ⌝ }
+    ensures { λ r. ⌜ (r ≡ answered (setUp stream settings node))
+        × (now (tally .exit) ≡ tallied (now (tally .entry)) (setUp stream settings node .reply)) ⌝ }
 {
     let answer = node.set_up(stream, settings);
     count(tally, answer.reply);
@@ -29,8 +30,17 @@ pub fn set_up(node: Node, stream: Stream, settings: Settings, tally: &mut Tally)
 }
 
 // Takes in a frame that the controller received.
-pub fn hear(node: Node, id: BusId, dlc: u8, payload: &[u8], out: &mut [u8], tally: &mut Tally) -> Delivered
-    ensures { λ r. ⌜ (r ≡ delivered (hear id dlc (now (payload .entry)) (now (out .entry)) node)) × (now (out .exit) ≡ over (hear id dlc (now (payload .entry)) (now (out .entry)) node .bytes) (now (out .entry))) × (now (tally .exit) ≡ tallied (now (tally .entry)) (hear id dlc (now (payload .entry)) (now (out .entry)) node .reply)) ⌝ }
+pub fn hear(
+    node: Node,
+    id: BusId,
+    dlc: u8,
+    payload: &[u8],
+    out: &mut [u8],
+    tally: &mut Tally,
+) -> Delivered
+    ensures { λ r. ⌜ (r ≡ delivered (hear id dlc (now (payload .entry)) (now (out .entry)) node))
+        × (now (out .exit) ≡ over (hear id dlc (now (payload .entry)) (now (out .entry)) node .bytes) (now (out .entry)))
+        × (now (tally .exit) ≡ tallied (now (tally .entry)) (hear id dlc (now (payload .entry)) (now (out .entry)) node .reply)) ⌝ }
 {
     let answer = node.hear(id, dlc, payload, out);
     count(tally, answer.reply);
@@ -39,7 +49,9 @@ pub fn hear(node: Node, id: BusId, dlc: u8, payload: &[u8], out: &mut [u8], tall
 
 // Moves the counter by one; what is due is delivered, and what is late dropped.
 pub fn tick(node: Node, out: &mut [u8], tally: &mut Tally) -> Delivered
-    ensures { λ r. ⌜ (r ≡ delivered (tick rolled (now (out .entry)) node)) × (now (out .exit) ≡ over (tick rolled (now (out .entry)) node .bytes) (now (out .entry))) × (now (tally .exit) ≡ tallied (now (tally .entry)) (tick rolled (now (out .entry)) node .reply)) ⌝ }
+    ensures { λ r. ⌜ (r ≡ delivered (tick rolled (now (out .entry)) node))
+        × (now (out .exit) ≡ over (tick rolled (now (out .entry)) node .bytes) (now (out .entry)))
+        × (now (tally .exit) ≡ tallied (now (tally .entry)) (tick rolled (now (out .entry)) node .reply)) ⌝ }
 {
     let answer = node.tick(out);
     count(tally, answer.reply);
@@ -48,7 +60,8 @@ pub fn tick(node: Node, out: &mut [u8], tally: &mut Tally) -> Delivered
 
 // Takes a message to send on one of the node's own streams.
 pub fn request(node: Node, stream: Stream, payload: &[u8], tally: &mut Tally) -> Answered
-    ensures { λ r. ⌜ (r ≡ answered (request stream (now (payload .entry)) node)) × (now (tally .exit) ≡ tallied (now (tally .entry)) (request stream (now (payload .entry)) node .reply)) ⌝ }
+    ensures { λ r. ⌜ (r ≡ answered (request stream (now (payload .entry)) node))
+        × (now (tally .exit) ≡ tallied (now (tally .entry)) (request stream (now (payload .entry)) node .reply)) ⌝ }
 {
     let answer = node.request(stream, payload);
     count(tally, answer.reply);
@@ -57,7 +70,9 @@ pub fn request(node: Node, stream: Stream, payload: &[u8], tally: &mut Tally) ->
 
 // Gives out the pending frame with the lowest bus identifier; it is pending no longer.
 pub fn next_frame(node: Node, out: &mut [u8], tally: &mut Tally) -> Given
-    ensures { λ r. ⌜ (r ≡ given (nextFrame (now (out .entry)) node)) × (now (out .exit) ≡ over (nextFrame (now (out .entry)) node .bytes) (now (out .entry))) × (now (tally .exit) ≡ tallied (now (tally .entry)) (nextFrame (now (out .entry)) node .reply)) ⌝ }
+    ensures { λ r. ⌜ (r ≡ given (nextFrame (now (out .entry)) node))
+        × (now (out .exit) ≡ over (nextFrame (now (out .entry)) node .bytes) (now (out .entry)))
+        × (now (tally .exit) ≡ tallied (now (tally .entry)) (nextFrame (now (out .entry)) node .reply)) ⌝ }
 {
     let answer = node.next_frame(out);
     count(tally, answer.reply);

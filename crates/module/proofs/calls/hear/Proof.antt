@@ -222,7 +222,8 @@ module _ {M : Type 1} (𝓤 : URA M) (H : Heap 𝓤) (A : Atoms 𝓤) (W : Given
         ⊛ some (λ (ws : Lasts called.ended (κ₀, (κ₁, tt)) asked). ‵ (lasts called.ended (κ₀, (κ₁, tt)) asked ws)
         ⊛ raw (called.clauses 𝓤 H A mem run (κ₀, (κ₁, tt)) asked .ensures tt r (atExit called.ended (κ₀, (κ₁, tt)) asked ws))))))
         (id⊢ 𝓤 _) $ await ! tt $ pick ! (λ r. split ! $ move ! (1 ∷ []) $ pick ! (λ ws. split ! $ move ! (1 ∷ []) $
-        use1 W (raw (fact 𝓤 (Said r (ws .1 .1 .1 .1 .0)))) (fst∗ 𝓤 (fact 𝓤 (Said r (ws .1 .1 .1 .1 .0))) (fact 𝓤 (Besides r (ws .1 .1 .1 .1 .0)))) $ heard ! (Said r (ws .1 .1 .1 .1 .0)) (λ e.
+        use1 W (raw (fact 𝓤 (Said r (ws .1 .1 .1 .1 .0)))) (fst∗ 𝓤 (fact 𝓤 (Said r (ws .1 .1 .1 .1 .0))) (fact 𝓤 (Besides r (ws .1 .1 .1 .1 .0)))) $
+        heard ! (Said r (ws .1 .1 .1 .1 .0)) (λ e.
         fsplit ! $ drop ! $ fsplit ! $ drop ! $ fsplit ! $ drop ! $ fsplit ! $ drop ! $ fsplit ! $ fsplit ! $ move ! (1 ∷ []) $ feqL ! (λ l.
         -- [the last list; true; the slices' tokens and the answer; the tally's token; what the tally owns; true; _11; …]
         move ! (2 ∷ []) $ split ! $ move ! (1 ∷ []) $ peeks ! R.the-row (Is R.the-row) (shows 𝓤 H A R.the-row) r (v ∷ []) (λ is.
@@ -251,8 +252,16 @@ module _ {M : Type 1} (𝓤 : URA M) (H : Heap 𝓤) (A : Atoms 𝓤) (W : Given
   walks C Λ fm known-called known-count =
       walked 𝓤 H A f.ended stayed (f.clauses 𝓤 H A mem run) (WpFn 𝓤 H C Λ code.function)
       (λ κs. (LL.vals N.the-type N′.the-laws, (LL.vals B.the-type B′.the-laws, (uint-vals w8, (slice-vals, (slice-vals, (ptr-vals, tt)))))))
-      (λ κs. (LL.tells N.the-type N′.the-laws, (LL.tells B.the-type B′.the-laws, (uint-tells w8,
-      (shr-slice-tells (named 0) (κs .0) u8, (mut-slice-tells (named 1) (κs .1 .0) u8, (mut-tells (named 2) (κs .1 .1 .0) T.the-row, tt)))))))
+      (λ κs. (
+        LL.tells N.the-type N′.the-laws,
+        (
+          LL.tells B.the-type B′.the-laws,
+          (
+            uint-tells w8,
+            (shr-slice-tells (named 0) (κs .0) u8, (mut-slice-tells (named 1) (κs .1 .0) u8, (mut-tells (named 2) (κs .1 .1 .0) T.the-row, tt))),
+          ),
+        ),
+      ))
       (λ κs qs bounds a g are. via 𝓤 _ (fst∗ 𝓤 _ (emp 𝓤))
       (walk 𝓤 H A W mem run (κs .0) (κs .1 .0) (κs .1 .1 .0) (qs .0) (qs .1 .0) (qs .1 .1 .0)
       (a .0) (a .1 .0) (a .1 .1 .0) (a .1 .1 .1 .0) (a .1 .1 .1 .1 .0) (a .1 .1 .1 .1 .1 .0) (are .0) (are .1 .0) (are .1 .1 .0 .1)

@@ -182,7 +182,8 @@ module _ {M : Type 1} (𝓤 : URA M) (H : Heap 𝓤) (A : Atoms 𝓤) (W : Given
         ⊛ some (λ (ws : Lasts called.ended (κ₀, tt) asked). ‵ (lasts called.ended (κ₀, tt) asked ws)
         ⊛ raw (called.clauses 𝓤 H A mem run (κ₀, tt) asked .ensures tt r (atExit called.ended (κ₀, tt) asked ws))))))
         (id⊢ 𝓤 _) $ await ! tt $ pick ! (λ r. split ! $ move ! (1 ∷ []) $ pick ! (λ ws. split ! $ move ! (1 ∷ []) $
-        use1 W (raw (fact 𝓤 (Said r (ws .1 .0)))) (fst∗ 𝓤 (fact 𝓤 (Said r (ws .1 .0))) (fact 𝓤 (Besides r (ws .1 .0)))) $ heard ! (Said r (ws .1 .0)) (λ e.
+        use1 W (raw (fact 𝓤 (Said r (ws .1 .0)))) (fst∗ 𝓤 (fact 𝓤 (Said r (ws .1 .0))) (fact 𝓤 (Besides r (ws .1 .0)))) $
+        heard ! (Said r (ws .1 .0)) (λ e.
         fsplit ! $ drop ! $ fsplit ! $ fsplit ! $ move ! (1 ∷ []) $ feqL ! (λ l.
         -- [the last list; true; the output's token and the answer; the tally's token; what the tally owns; true; _8; …]
         move ! (2 ∷ []) $ split ! $ move ! (1 ∷ []) $ peeks ! R.the-row (Is R.the-row) (shows 𝓤 H A R.the-row) r (v ∷ []) (λ is.

@@ -184,7 +184,8 @@ module _ {M : Type 1} (𝓤 : URA M) (H : Heap 𝓤) (A : Atoms 𝓤) (W : Given
         ⊛ some (λ (ws : Lasts called.ended tt asked). ‵ (lasts called.ended tt asked ws)
         ⊛ raw (called.clauses 𝓤 H A mem run tt asked .ensures tt r (atExit called.ended tt asked ws))))))
         (id⊢ 𝓤 _) $ await ! tt $ pick ! (λ r. split ! $ move ! (1 ∷ []) $ pick ! (λ ws. split ! $ move ! (1 ∷ []) $
-        use1 W (raw (fact 𝓤 (Said r))) (fst∗ 𝓤 (fact 𝓤 (Said r)) (fact 𝓤 (Besides r))) $ heard ! (Said r) (λ e.
+        use1 W (raw (fact 𝓤 (Said r))) (fst∗ 𝓤 (fact 𝓤 (Said r)) (fact 𝓤 (Besides r))) $
+        heard ! (Said r) (λ e.
         drop ! $ split ! $ move ! (1 ∷ []) $ peeks ! R.the-row (Is R.the-row) (shows 𝓤 H A R.the-row) r (v ∷ []) (λ is.
         land ! (from ! (stop !)) (init ! 9 refl (LL.lawful R.the-type R′.the-laws 𝓤 H A W .typed r _ is .0)) $ drop ! $
         rewrite ! 8 (λ (x : Val). ‵ (fat fullShare R′.mir l₅ 0 x)) (ap only (LL.tells R.the-type R′.the-laws r (v ∷ []) is)) refl $
@@ -210,8 +211,13 @@ module _ {M : Type 1} (𝓤 : URA M) (H : Heap 𝓤) (A : Atoms 𝓤) (W : Given
   walks C Λ fm known-called known-count =
       walked 𝓤 H A f.ended stayed (f.clauses 𝓤 H A mem run) (WpFn 𝓤 H C Λ code.function)
       (λ κs. (LL.vals N.the-type N′.the-laws, (LL.vals I.the-type I′.the-laws, (LL.vals Q.the-type Q′.the-laws, (ptr-vals, tt)))))
-      (λ κs. (LL.tells N.the-type N′.the-laws, (LL.tells I.the-type I′.the-laws,
-      (LL.tells Q.the-type Q′.the-laws, (mut-tells (named 0) (κs .0) T.the-row, tt)))))
+      (λ κs. (
+        LL.tells N.the-type N′.the-laws,
+        (
+          LL.tells I.the-type I′.the-laws,
+          (LL.tells Q.the-type Q′.the-laws, (mut-tells (named 0) (κs .0) T.the-row, tt)),
+        ),
+      ))
       (λ κs qs bounds a g are. via 𝓤 _ (fst∗ 𝓤 _ (emp 𝓤))
       (walk 𝓤 H A W mem run (κs .0) (qs .0)
       (a .0) (a .1 .0) (a .1 .1 .0) (a .1 .1 .1 .0) (are .0) (are .1 .0) (are .1 .1 .0)
