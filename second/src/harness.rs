@@ -19,20 +19,33 @@ pub fn skipped(line: &[u8]) -> bool {
     line.is_empty() || line[0] == b'#'
 }
 
-/// A line as the bench can take it: its modules and frames are there.
-fn read(line: &[u8], bench: Option<&Bench>) -> Option<Line> {
+/// What the lines before have made: so many modules, and so many frames given out.
+#[derive(Clone, Copy, Debug, PartialEq, Eq)]
+pub struct Stand {
+    pub modules: usize,
+    pub frames: usize,
+}
+
+impl Stand {
+    fn of(bench: &Bench) -> Stand {
+        Stand { modules: bench.modules().len(), frames: bench.frames().len() }
+    }
+}
+
+/// A line that can be taken where it stands: its modules and frames are there.
+pub fn read_line(line: &[u8], stand: Option<Stand>) -> Option<Line> {
     let words = words(line);
     if let [b"modules", count] = words.as_slice() {
         let count = number(count, 8)?;
         return (count >= 2).then_some(Line::Modules(count as usize));
     }
-    let bench = bench?;
+    let stand = stand?;
     let below = |word: &[u8], count: usize| {
         let value = usize::try_from(number(word, u64::MAX)?).ok()?;
         (value < count).then_some(value)
     };
-    let module = |word: &[u8]| below(word, bench.modules().len());
-    let frame = |word: &[u8]| below(word, bench.frames().len());
+    let module = |word: &[u8]| below(word, stand.modules);
+    let frame = |word: &[u8]| below(word, stand.frames);
     let event = match words.as_slice() {
         [b"setup", name, asked @ ..] => {
             return Some(Line::SetUp { module: module(name)?, asked: read_asked(asked)? });
@@ -52,6 +65,10 @@ fn read(line: &[u8], bench: Option<&Bench>) -> Option<Line> {
         _ => return None,
     };
     Some(Line::Event(event))
+}
+
+fn read(line: &[u8], bench: Option<&Bench>) -> Option<Line> {
+    read_line(line, bench.map(Stand::of))
 }
 
 /// Whether a line can be read where this bench stands.

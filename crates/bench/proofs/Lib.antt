@@ -32,3 +32,8 @@ pub mod Requests
 pub mod SameOrder
 pub mod NotEmpty
 pub mod Dummies
+pub mod Places
+pub mod CodeTurns
+pub mod CodeCalls
+pub mod Unique
+pub mod InStep

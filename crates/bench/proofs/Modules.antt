@@ -1,7 +1,7 @@
 -- What each event makes of one module: nothing, one call of its node, or death.
 use Prim.Native.Nat.{ℕ, zero, suc, _+_, _-_, _≤_, _<_}
 use native.Mathlib.Omega.{arith}
-use native.Mathlib.Nat.{add-zero, zero-add}
+use native.Mathlib.Nat.{zero-add}
 use mathlib.Core.Path.{_≡_, refl, ap, sym, subst, _∙_}
 use mathlib.Core.Logic.{_⊎_, inl, inr}
 use mathlib.Core.Bool.{Bool, true, false, not, _&&_, cond}
@@ -31,6 +31,7 @@ use Rattle.bench.specs.SetUp.{isDone}
 use Rattle.bench.proofs.Laws.{Same, same-stream, takes, hearing, hear-own, hear-other, ticking, tick-slot, asking, accepts, ask-own}
 use Rattle.bench.proofs.Laws.{ask-other, hear-counter, tick-counter, ask-counter, giving, next-own, next-other, next-counter}
 use Rattle.bench.proofs.Laws.{onStream}
+use Rattle.bench.proofs.Places.{nth-there, nth-each, length-each}
 
 -- ── lists ──
 module _ {A : Type 0} (other : A) where
@@ -38,12 +39,6 @@ module _ {A : Type 0} (other : A) where
   nth-map f e i [] = sym e
   nth-map f e zero (x ∷ xs) = refl
   nth-map f e (suc i) (x ∷ xs) = nth-map f e i xs
-
-  pub nth-each : (f : ℕ → A → A) → ((j : ℕ) → f j other ≡ other) → (j i : ℕ) (l : List A)
-      → nth other i (each f j l) ≡ f (j + i) (nth other i l)
-  nth-each f e j i [] = sym (e (j + i))
-  nth-each f e j zero (x ∷ xs) = rw add-zero
-  nth-each f e j (suc i) (x ∷ xs) = nth-each f e (suc j) i xs ∙ ap (λ k. f k (nth other i xs)) (omega arith)
 
   -- a change at a place that is there, or that changes nothing past the end
   pub nth-at : (f : A → A) (i j : ℕ) (l : List A) → (j < length l) ⊎ (f other ≡ other)
@@ -64,9 +59,7 @@ module _ {A : Type 0} (other : A) where
       less (inr e) = inr e
 
 pub live-there : (i : ℕ) (ms : List Module) → T (nth noModule i ms .live) → i < length ms
-live-there i [] t = absurd t
-live-there zero (m ∷ ms) t = omega arith
-live-there (suc i) (m ∷ ms) t = let h = live-there i ms t in omega arith
+live-there = nth-there noModule (λ (m : Module). T (m .live)) (λ t. t)
 
 -- ── one module ──
 abbrev pub hearsFrame : Frame → Module → Module
@@ -113,8 +106,7 @@ module-step b (gives j z c) i =
     (and-l (isLive j b && isDone (next j b .reply) && sameStream (streamOf (next j b .id)) z) (eqb (codeOf (next j b .id)) c) t)))
     (λ n. giving n .node) (gave j z c b) refl
 module-step b (sends z n w to) i =
-    nth-each noModule (hears to (ownerOf w (bookOf z n b)) (frameOf w (bookOf z n b))) (λ j. refl) 0 i (b .modules)
-    ∙ ap (λ k. hears to (ownerOf w (bookOf z n b)) (frameOf w (bookOf z n b)) k (moduleAt i b)) (zero-add i)
+    nth-each noModule (hears to (ownerOf w (bookOf z n b)) (frameOf w (bookOf z n b))) i 0 i (b .modules) (zero-add i)
 module-step b ticks i = nth-map noModule (ticked unbounded) refl i (b .modules)
 module-step b (dies j) i = nth-at noModule dead i j (b .modules) (inr refl)
 
@@ -313,10 +305,6 @@ pub length-at : {A : Type 0} (f : A → A) (j : ℕ) (l : List A) → length (at
 length-at f j [] = refl
 length-at f zero (x ∷ xs) = refl
 length-at f (suc j) (x ∷ xs) = ap suc (length-at f j xs)
-
-length-each : {A B : Type 0} (f : ℕ → A → B) (j : ℕ) (l : List A) → length (each f j l) ≡ length l
-length-each f j [] = refl
-length-each f j (x ∷ xs) = ap suc (length-each f (suc j) xs)
 
 pub size-step : (b : Bench) (e : Event) → length (step b e .modules) ≡ length (b .modules)
 unfolding step

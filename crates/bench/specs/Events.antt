@@ -163,11 +163,15 @@ abbrev pub onto : List Delivery → List Delivery → List Delivery
 onto [] log = log
 onto (d ∷ ds) log = onto ds (d ∷ log)
 
-abbrev pub hears : To → (owner : ℕ) → Frame → ℕ → Module → Module
-hears to owner f i m =
-    cond (m .live && named to i && not (eqb i owner))
+-- a live module that is named, and does not own the frame
+abbrev pub hearsWhere : (named own : Bool) → Frame → Module → Module
+hearsWhere named own f m =
+    cond (m .live && named && not own)
     (record { node = heard f m .node; live = m .live; log = onto (atOnce f m) (m .log) })
     m
+
+abbrev pub hears : To → (owner : ℕ) → Frame → ℕ → Module → Module
+hears to owner f i m = hearsWhere (named to i) (eqb i owner) f m
 
 abbrev pub sending : Stream → (message : ℕ) → Which → To → Bench → Bench
 sending s message w to b =

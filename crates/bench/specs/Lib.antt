@@ -4,3 +4,4 @@ pub mod SetUp
 pub mod Events
 pub mod Rules
 pub mod Demands
+pub mod InCode

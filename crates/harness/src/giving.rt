@@ -1,0 +1,109 @@
+// The lines that change the frames given out: a new bench has none, and a giving out adds one.
+use crate::answers;
+use crate::answers::State;
+use crate::lines::Verb;
+use crate::numbers;
+use bench::Giving;
+use bench::outbox::Frame;
+use bench::outbox::Frames;
+use text::Buffer;
+use text::output;
+use text::words;
+use wire::reply::Reply;
+ghost use mathlib.Core.Path.{_≡_};
+
+// The state and the frames after a line, and the index in the output past its answer.
+pub struct Gave {
+    pub frames: Frames,
+    pub state: State,
+    pub to: usize,
+}
+
+pub fn line(
+    verb: Verb,
+    state: State,
+    frames: Frames,
+    line: &[u8],
+    out: &mut Buffer,
+    to: usize,
+) -> Gave {
+    let w = words::word_at(line, 0);
+    if let Verb::Give = verb {
+        give(state, frames, line, w.next, out, to)
+    } else {
+        modules(state, frames, line, w.next, out, to)
+    }
+}
+
+// modules N
+fn modules(
+    state: State,
+    frames: Frames,
+    line: &[u8],
+    at: usize,
+    out: &mut Buffer,
+    to: usize,
+) -> Gave {
+    let n = words::number_at(line, at, 8);
+    if n.ok & (2 <= n.value) & words::done(line, n.next) {
+        let room = output::room(out, to);
+        let past = output::put(out, room, b"modules ");
+        return Gave {
+            frames: Frames::none(),
+            state: State::of(n.value as usize),
+            to: answers::put_number(out, past, n.value),
+        };
+    }
+    unread(state, frames, out, to)
+}
+
+// give M
+fn give(state: State, frames: Frames, line: &[u8], at: usize, out: &mut Buffer, to: usize) -> Gave {
+    let who = numbers::module_at(line, at, state.modules);
+    if who.ok & words::done(line, who.next) {
+        let bench = state.bench;
+        let gave = bench.give(who.value, frames);
+        let kept = gave.frames;
+        let after = gave.bench;
+        let giving = gave.giving;
+        let frame = gave.frame;
+        return Gave {
+            frames: kept,
+            state: state.with(after),
+            to: put_giving(out, to, giving, frames.count, frame),
+        };
+    }
+    unread(state, frames, out, to)
+}
+
+// The answer to a line that can't be read: nothing changes.
+fn unread(state: State, frames: Frames, out: &mut Buffer, to: usize) -> Gave
+    ensures { λ r. ⌜ (r .state ≡ state) × (r .frames ≡ frames) ⌝ }
+{
+    Gave {
+        frames,
+        state,
+        to: answers::put_byte(out, to, b'?'),
+    }
+}
+
+fn put_giving(out: &mut Buffer, to: usize, giving: Giving, number: usize, frame: Frame) -> usize {
+    match giving {
+        Giving::Dead => answers::put_dead(out, to),
+        Giving::Nothing => answers::put_reply(out, to, Reply::Nothing),
+        Giving::Full => answers::put_byte(out, to, b'?'),
+        Giving::Out => put_frame(out, to, number, frame),
+    }
+}
+
+// `0 FRAME IDENT PAYLOAD`.
+fn put_frame(out: &mut Buffer, to: usize, number: usize, frame: Frame) -> usize {
+    let reply = answers::put_reply(out, to, Reply::Done);
+    let start = answers::put_byte(out, reply, b' ');
+    let mid = answers::put_parted(out, start, number as u64, b' ');
+    let id = frame.id;
+    let past = answers::put_parted(out, mid, id.0 as u64, b' ');
+    let bytes = frame.all_bytes();
+    let n = frame.payload_length();
+    answers::put_payload(out, past, &bytes[0..n])
+}

@@ -1,0 +1,58 @@
+// Runs a bench history by lines of text, one answer line for each line that is not skipped.
+use crate::answers::State;
+use crate::lines::Route;
+use bench::outbox::Frames;
+use text::input;
+use text::input::Input;
+
+mod answers;
+mod asking;
+mod giving;
+mod lines;
+mod numbers;
+mod records;
+mod sending;
+mod ticking;
+
+fn main() {
+    let mut buf = [0u8; 65536];
+    let mut out = [0u8; 65536];
+    let mut input = Input::new();
+    let mut comment = false;
+    let mut state = State::of(0);
+    let mut frames = Frames::none();
+    let mut to = 0;
+    let mut turns = u64::MAX;
+    while turns > 0 {
+        turns -= 1;
+        let step = input.next(&buf);
+        comment = lines::is_comment(step, comment, &buf);
+        let line = lines::bytes(step, &buf);
+        let verb = lines::verb_at(step, comment, line);
+        let route = lines::route_of(verb);
+        match route {
+            Route::Giving => {
+                let gave = giving::line(verb, state, frames, line, &mut out, to);
+                frames = gave.frames;
+                state = gave.state;
+                to = gave.to;
+            }
+            Route::Sending => {
+                let named = sending::frame_in(frames, line);
+                let answer = sending::line(verb, state, named, line, &mut out, to);
+                state = answer.state;
+                to = answer.to;
+            }
+            Route::Other => {
+                let answer = asking::line(verb, state, line, &mut out, to);
+                state = answer.state;
+                to = answer.to;
+            }
+        }
+        to = lines::ended(verb, &mut out, to);
+        if input::is_end(step) {
+            return;
+        }
+        input = input::advance(step, &mut buf);
+    }
+}

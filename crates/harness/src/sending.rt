@@ -1,0 +1,141 @@
+// Sendings of a frame, full and short, and what the modules answered that heard it.
+use crate::answers;
+use crate::answers::Answer;
+use crate::answers::State;
+use crate::lines::Verb;
+use crate::numbers;
+use crate::records;
+use bench::outbox::Frame;
+use bench::outbox::Frames;
+use bench::parts::Said;
+use text::Buffer;
+use text::words;
+
+// The frame that a line names, and the index of the next word.
+pub struct Named {
+    pub ok: bool,
+    pub frame: Frame,
+    pub next: usize,
+}
+
+pub fn frame_in(frames: Frames, line: &[u8]) -> Named {
+    let w = words::word_at(line, 0);
+    let name = numbers::frame_at(line, w.next, frames.count);
+    Named {
+        ok: name.ok,
+        frame: frames.at(name.value),
+        next: name.next,
+    }
+}
+
+// Those that are to hear a sending.
+struct Hearers {
+    ok: bool,
+    to: [bool; 8],
+}
+
+pub fn line(
+    verb: Verb,
+    state: State,
+    named: Named,
+    line: &[u8],
+    out: &mut Buffer,
+    to: usize,
+) -> Answer {
+    if let Verb::Full = verb {
+        full(state, named, line, out, to)
+    } else {
+        short(state, named, line, out, to)
+    }
+}
+
+// full F
+fn full(state: State, named: Named, line: &[u8], out: &mut Buffer, to: usize) -> Answer {
+    if named.ok & words::done(line, named.next) {
+        let frame = named.frame;
+        return send(state, frame, [true; 8], out, to);
+    }
+    answers::unread(state, out, to)
+}
+
+// short F [M ...]
+fn short(state: State, named: Named, line: &[u8], out: &mut Buffer, to: usize) -> Answer {
+    let hearers = hearers_at(line, named.next, state.modules);
+    if named.ok & hearers.ok {
+        let frame = named.frame;
+        let names = hearers.to;
+        return send(state, frame, names, out, to);
+    }
+    answers::unread(state, out, to)
+}
+
+// The modules that the words from an index on name.
+fn hearers_at(line: &[u8], at: usize, modules: usize) -> Hearers {
+    let mut ok = true;
+    let mut to = [false; 8];
+    let mut next = at;
+    while next <= line.len() {
+        let name = numbers::module_at(line, next, modules);
+        let who = name.value;
+        ok = ok & name.ok;
+        to[who] = true;
+        next = name.next;
+    }
+    Hearers { ok, to }
+}
+
+fn send(state: State, frame: Frame, hearers: [bool; 8], out: &mut Buffer, to: usize) -> Answer {
+    let bench = state.bench;
+    let sent = bench.send(frame, hearers);
+    let said = sent.said;
+    Answer {
+        state: state.with(sent.bench),
+        to: put_sent(out, to, sent.sent, said),
+    }
+}
+
+fn put_sent(out: &mut Buffer, to: usize, sent: bool, said: [Said; 8]) -> usize {
+    if !sent {
+        return answers::put_dead(out, to);
+    }
+    let mut past = to;
+    let mut heard = false;
+    let mut i = 0;
+    while i < 8 {
+        let s = said[i];
+        past = put_hearing(out, past, i, heard, s);
+        heard = heard | s.heard;
+        i += 1;
+    }
+    if heard {
+        past
+    } else {
+        answers::put_byte(out, past, b'-')
+    }
+}
+
+// `M:REPLY`, and `:STREAM:PAYLOAD` where hearing delivered; a space before it where another heard before. Nothing of one that
+// did not hear.
+fn put_hearing(out: &mut Buffer, to: usize, module: usize, more: bool, said: Said) -> usize {
+    if !said.heard {
+        return to;
+    }
+    let start = put_space(out, to, more);
+    let mid = answers::put_parted(out, start, module as u64, b':');
+    let reply = said.reply;
+    let past = answers::put_reply(out, mid, reply);
+    if said.len == 0 {
+        return past;
+    }
+    let bytes = said.bytes;
+    let end = answers::put_byte(out, past, b':');
+    records::put_record(out, end, records::first(&bytes, said.len))
+}
+
+fn put_space(out: &mut Buffer, to: usize, wanted: bool) -> usize {
+    if wanted {
+        answers::put_byte(out, to, b' ')
+    } else {
+        to
+    }
+}

@@ -1,0 +1,277 @@
+//! What there is to see in a history: its modules, streams, frames and windows, and what was answered, moment by moment.
+
+use std::collections::BTreeMap;
+
+use second::bench::{Delivery, Hearing, Outcome};
+use second::history::{Event, Hearers};
+use second::ident::Code;
+use second::reply::Reply;
+use second::settings::Asked;
+
+use crate::captions::Caption;
+use crate::reading::{Told, Trouble, What};
+use crate::tag::Tag;
+use crate::windows::{self, Window};
+
+/// Set ups of one stream with the same numbers.
+#[derive(Clone, Debug, PartialEq, Eq)]
+pub struct StreamRow {
+    pub asked: Asked,
+    pub senders: Vec<usize>,
+    pub receivers: Vec<usize>,
+}
+
+/// A set up that was refused.
+#[derive(Clone, Debug, PartialEq, Eq)]
+pub struct Refused {
+    pub line: usize,
+    pub module: usize,
+    pub stream: u32,
+    pub reply: Reply,
+}
+
+/// A frame that was given out.
+#[derive(Clone, Debug, PartialEq, Eq)]
+pub struct Frame {
+    pub owner: usize,
+    pub code: Code,
+    pub tag: Tag,
+}
+
+/// What one line did, or one tick of it.
+#[derive(Clone, Debug, PartialEq, Eq)]
+pub enum Seen {
+    /// Deliveries of one tick, at most one of each module.
+    Deliveries(Vec<Delivery>),
+    /// At a window's end: the live receivers that heard the data and did not deliver it.
+    Drops {
+        tag: Tag,
+        modules: Vec<usize>,
+    },
+    /// A request; `refused` says why it was not taken.
+    Request {
+        module: usize,
+        tag: Tag,
+        refused: Option<String>,
+    },
+    Give {
+        frame: usize,
+    },
+    /// A giving out that gave nothing, and why.
+    GiveNothing {
+        module: usize,
+        says: &'static str,
+    },
+    Sending {
+        frame: usize,
+        full: bool,
+        heard: Vec<Hearing>,
+        missed: Vec<usize>,
+    },
+    /// A sending of a dead module's frame, which is none.
+    NoSending {
+        frame: usize,
+    },
+    /// A module's first death.
+    Death {
+        module: usize,
+    },
+    /// Nothing but a note at the end.
+    Remark,
+}
+
+#[derive(Clone, Debug, PartialEq, Eq)]
+pub struct Moment {
+    /// The line of the file that it belongs to.
+    pub line: usize,
+    pub tick: u64,
+    pub seen: Seen,
+    /// The number of the note that is said of it.
+    pub note: Option<usize>,
+}
+
+#[derive(Clone, Debug, Default)]
+pub struct Scene {
+    pub title: Option<String>,
+    /// The modules' names, empty where the history gives none.
+    pub names: Vec<String>,
+    /// The tick at which each module died.
+    pub deaths: Vec<Option<u64>>,
+    pub set_ups: Vec<(usize, Asked)>,
+    pub refused: Vec<Refused>,
+    pub frames: Vec<Frame>,
+    pub moments: Vec<Moment>,
+    pub windows: Vec<Window>,
+    pub notes: Vec<String>,
+    /// The tick count at the end.
+    pub end: u64,
+}
+
+impl Scene {
+    pub fn of(told: &[Told]) -> Result<Scene, Vec<Trouble>> {
+        let mut scene = Scene::default();
+        let mut names: BTreeMap<usize, &str> = BTreeMap::new();
+        let mut note: Vec<&str> = Vec::new();
+        let mut troubles = Vec::new();
+        for Told { line, what } in told {
+            match what {
+                What::Caption(Caption::Title(title)) => scene.title = Some(title.clone()),
+                What::Caption(Caption::Name { module, name }) => {
+                    names.insert(*module, name);
+                }
+                What::Caption(Caption::Note(text)) => note.push(text),
+                What::Modules(modules) => {
+                    scene.names = vec![String::new(); *modules];
+                    scene.deaths = vec![None; *modules];
+                }
+                What::SetUp { module, asked, reply: Reply::Done } => scene.set_ups.push((*module, *asked)),
+                What::SetUp { module, asked, reply } => {
+                    scene.refused.push(Refused { line: *line, module: *module, stream: asked.stream, reply: *reply });
+                }
+                What::Event(event, outcome) => match scene.seen(event, outcome) {
+                    Some(seen) => {
+                        for (tick, seen) in seen {
+                            let note = scene.noted(&mut note);
+                            scene.moments.push(Moment { line: *line, tick, seen, note });
+                        }
+                    }
+                    None => troubles.push(Trouble::new(*line, "the answer names a module that is not there")),
+                },
+            }
+        }
+        if !note.is_empty() {
+            let (line, tick) = (told.last().map_or(0, |told| told.line), scene.end);
+            let note = scene.noted(&mut note);
+            scene.moments.push(Moment { line, tick, seen: Seen::Remark, note });
+        }
+        for (module, name) in names {
+            if let Some(place) = scene.names.get_mut(module) {
+                *place = name.to_string();
+            }
+        }
+        scene.windows = windows::windows(&scene);
+        scene.put_drops();
+        if troubles.is_empty() {
+            Ok(scene)
+        } else {
+            Err(troubles)
+        }
+    }
+
+    /// Takes the notes that wait for a moment as one.
+    fn noted(&mut self, waiting: &mut Vec<&str>) -> Option<usize> {
+        if waiting.is_empty() {
+            return None;
+        }
+        self.notes.push(waiting.join(" "));
+        waiting.clear();
+        Some(self.notes.len())
+    }
+
+    /// What an event's answer shows, with the ticks; none if it names a module that is not there.
+    fn seen(&mut self, event: &Event, outcome: &Outcome) -> Option<Vec<(u64, Seen)>> {
+        let there = |module: usize| (module < self.names.len()).then_some(());
+        let seen = match (event, outcome) {
+            (_, Outcome::Ticked { count, delivered }) => {
+                delivered.iter().try_for_each(|delivery| there(delivery.module))?;
+                self.end = *count;
+                return Some(by_tick(delivered));
+            }
+            (Event::Request { module, stream, payload }, outcome) => Seen::Request {
+                module: *module,
+                tag: Tag::message(*stream, payload),
+                refused: match outcome {
+                    Outcome::Replied(Reply::Done) => None,
+                    Outcome::Replied(reply) => Some(format!("{} {reply:?}", reply.number())),
+                    _ => Some("dead".to_string()),
+                },
+            },
+            (Event::Give { module }, Outcome::Gave { frame, id, payload }) => {
+                let code = Code::ALL[(id.0 % 4) as usize];
+                let carries = matches!(code, Code::Data | Code::Plain) || !payload.is_empty();
+                let tag = Tag { stream: id.0 / 4, payload: carries.then(|| payload.clone()) };
+                self.frames.push(Frame { owner: *module, code, tag });
+                Seen::Give { frame: *frame }
+            }
+            (Event::Give { module }, Outcome::Dead) => Seen::GiveNothing { module: *module, says: "dead" },
+            (Event::Give { module }, _) => Seen::GiveNothing { module: *module, says: "nothing" },
+            (Event::Send { frame, hearers }, Outcome::Heard(heard)) => {
+                heard.iter().try_for_each(|hearing| there(hearing.module))?;
+                let owner = self.frames.get(*frame)?.owner;
+                let hears = |module: usize| heard.iter().any(|hearing| hearing.module == module);
+                let missed = (0..self.names.len())
+                    .filter(|module| *module != owner && self.deaths[*module].is_none() && !hears(*module))
+                    .collect();
+                Seen::Sending { frame: *frame, full: *hearers == Hearers::Full, heard: heard.clone(), missed }
+            }
+            (Event::Send { frame, .. }, _) => Seen::NoSending { frame: *frame },
+            (Event::Death { module }, _) if self.deaths[*module].is_some() => return Some(Vec::new()),
+            (Event::Death { module }, _) => {
+                self.deaths[*module] = Some(self.end);
+                Seen::Death { module: *module }
+            }
+            _ => return None,
+        };
+        Some(vec![(self.end, seen)])
+    }
+
+    /// Whether a module has a slot for a stream.
+    pub fn has(&self, module: usize, stream: u32) -> bool {
+        self.set_ups.iter().any(|(at, asked)| *at == module && asked.stream == stream)
+    }
+
+    /// A module as the picture calls it.
+    pub fn name(&self, module: usize) -> String {
+        match self.names[module].as_str() {
+            "" => format!("module {module}"),
+            name => format!("{module} {name}"),
+        }
+    }
+
+    /// The streams with their numbers, ascending.
+    pub fn streams(&self) -> Vec<StreamRow> {
+        let mut rows: Vec<StreamRow> = Vec::new();
+        for (module, asked) in &self.set_ups {
+            let same = Asked { role: 0, ..*asked };
+            let row = match rows.iter_mut().find(|row| row.asked == same) {
+                Some(row) => row,
+                None => {
+                    rows.push(StreamRow { asked: same, senders: Vec::new(), receivers: Vec::new() });
+                    let last = rows.len() - 1;
+                    &mut rows[last]
+                }
+            };
+            let list = if asked.role == 1 { &mut row.senders } else { &mut row.receivers };
+            list.push(*module);
+        }
+        rows.sort_by_key(|row| row.asked);
+        rows
+    }
+
+    /// Puts what was dropped where its window ends: after that tick's deliveries, before anything else.
+    fn put_drops(&mut self) {
+        for window in &self.windows {
+            if window.drops.is_empty() {
+                continue;
+            }
+            let settled = |moment: &Moment| matches!(moment.seen, Seen::Deliveries(_) | Seen::Drops { .. });
+            let before =
+                |moment: &Moment| moment.tick < window.until || (moment.tick == window.until && settled(moment));
+            let at = self.moments.iter().position(|moment| !before(moment)).unwrap_or(self.moments.len());
+            let seen = Seen::Drops { tag: window.tag.clone(), modules: window.drops.clone() };
+            self.moments.insert(at, Moment { line: window.line, tick: window.until, seen, note: None });
+        }
+    }
+}
+
+/// Deliveries of one or many ticks in turn; a module's second of a tick comes after everyone's first.
+fn by_tick(delivered: &[Delivery]) -> Vec<(u64, Seen)> {
+    let mut turns: BTreeMap<(u64, usize), Vec<Delivery>> = BTreeMap::new();
+    let mut before: BTreeMap<(u64, usize), usize> = BTreeMap::new();
+    for delivery in delivered {
+        let turn = before.entry((delivery.tick, delivery.module)).or_default();
+        turns.entry((delivery.tick, *turn)).or_default().push(delivery.clone());
+        *turn += 1;
+    }
+    turns.into_iter().map(|((tick, _), delivered)| (tick, Seen::Deliveries(delivered))).collect()
+}
