@@ -1,11 +1,11 @@
 // The line at hand, and what its first word asks for.
 use crate::answers;
+use crate::numbers;
 use text::Buffer;
 use text::input::Kind;
 use text::input::Step;
 use text::output;
 use text::words;
-ghost use Prim.Native.Nat.{_≤_};
 
 // What a line goes by: the frames given out change, one of them is sent, or they are left alone.
 pub enum Route {
@@ -33,12 +33,10 @@ pub enum Verb {
 }
 
 // The bytes of the line, which are none where no line is at hand.
-pub fn bytes(step: Step, buf: &Buffer) -> &[u8]
-    requires { ⌜ (step .start ≤ step .end) × (step .end ≤ 65536) ⌝ }
-{
-    let start = step.start;
-    let end = step.end;
+pub fn bytes(step: Step, buf: &Buffer) -> &[u8] {
     let all = &buf[..];
+    let end = numbers::least(step.end, all.len());
+    let start = numbers::least(step.start, end);
     &all[start..end]
 }
 

@@ -1,10 +1,11 @@
 -- Finding a slot by its index: what stands there is the first slot of which the test is true, and where the index is
--- the table's length there is none. Also a turn of the loop that finds it, from the end of the table to its front.
+-- the table's length there is none. Also a turn of the loop that finds it, from the front of the table on.
 use mathlib.Core.Path.{_≡_, refl, sym, ap, _∙_}
 use mathlib.Core.Bool.{Bool, true, false, cond, false≢true}
 use mathlib.Core.List.{List, [], _∷_, map}
 use Prim.Native.Nat.{ℕ, suc, _+_, _-_, _≤_, _<_}
 use native.Mathlib.Omega.{arith}
+use native.Mathlib.Numerals.{add-one}
 use lib.ListN.{length, getD, set, drop, length-map, drop-of-length-le}
 use lib.Seq.{drop-cons}
 use lib.Dec.{leb}
@@ -12,8 +13,13 @@ use borrow.Author.Tests.{leb-true, leb-false}
 use Rattle.wire.specs.declared.ids.Stream.{Stream}
 use Rattle.node.specs.declared.slots.Slot.{Slot}
 use Rattle.node.specs.declared.Node.{Node}
-use Rattle.node.specs.Slots.{empty, isOf, first, onFirst, some, indexOf}
+use Rattle.node.specs.Slots.{empty, isOf, first, onFirst, some}
 use Rattle.node.specs.Nodes.{slotOf, withSlots, onSlot}
+
+-- where the first slot stands of which the test is true; where there is none, the table's length
+unfoldable pub indexOf : (Slot → Bool) → List Slot → ℕ
+indexOf test [] = 0
+indexOf test (x ∷ xs) = cond (test x) 0 (suc (indexOf test xs))
 
 -- a list is as long as its image: what `search` lacks at an array of structs in a struct
 pub length-of-mapped : (X Y : Type 0) (f : X → Y) (l : List X) (n : ℕ) → length (map f l) ≡ n → length l ≡ n
@@ -77,25 +83,25 @@ module _ (test : Slot → Bool) where
       go true e = absurd (false≢true (sym (missed l (leb-true (length l) (indexOf test l) e) .not-there) ∙ there))
       go false e = leb-false (length l) (indexOf test l) e
 
-  -- ── the loop: from the slot at i on, the first of which the test is true stands at `at` ──
-  abbrev pub FoundFrom : List Slot → (i at : ℕ) → Type 0
-  FoundFrom l i at = at ≡ i + indexOf test (drop i l)
+  -- ── the loop: of no slot before i the test is true ──
+  abbrev pub NoneBefore : List Slot → (i : ℕ) → Type 0
+  NoneBefore l i = indexOf test l ≡ i + indexOf test (drop i l)
 
-  pub none-past-the-end : (l : List Slot) (i : ℕ) → length l ≡ i → FoundFrom l i i
+  pub none-at-first : (l : List Slot) → NoneBefore l 0
+  none-at-first l = omega arith
+
+  pub found-nowhere : (l : List Slot) (i : ℕ) → length l ≤ i → NoneBefore l i → i ≡ indexOf test l
   unfolding indexOf
-  none-past-the-end l i e = let past : length l ≤ i = omega arith in rw (drop-of-length-le l past) (omega arith)
+  found-nowhere l i past none = omega (arith, rw (drop-of-length-le l past) at none)
 
-  pub found-from-the-front : (l : List Slot) (i at : ℕ) → FoundFrom l i at → i ≡ 0 → at ≡ indexOf test l
-  found-from-the-front l i at inv front = inv ∙ rw front (omega arith)
-
-  module _ (l : List Slot) (i : ℕ) (d : Slot) (some-left : 0 < i) (inside : i ≤ length l) where
-    pub hit-at : test (getD l (i - 1) d) ≡ true → FoundFrom l (i - 1) (i - 1)
+  module _ (l : List Slot) (i : ℕ) (d : Slot) (inside : i < length l) (none : NoneBefore l i) where
+    pub found-here : test (getD l i d) ≡ true → i ≡ indexOf test l
     unfolding indexOf
-    hit-at e = rw (step-back l i d some-left inside, e) (omega arith)
+    found-here e = omega (arith, rw (drop-cons l i d inside, e) at none)
 
-    pub missed-at : (at : ℕ) → FoundFrom l i at → test (getD l (i - 1) d) ≡ false → FoundFrom l (i - 1) at
+    pub not-here : test (getD l i d) ≡ false → NoneBefore l (i + 1)
     unfolding indexOf
-    missed-at at inv e = rw (step-back l i d some-left inside, e) (omega arith)
+    not-here e = rw add-one (omega (arith, rw (drop-cons l i d inside, e) at none))
 
 -- ── the slot of a stream, found in the node's table ──
 module _ (n : Node) (s : Stream) (i : ℕ) (at-index : i ≡ indexOf (isOf s) (n .slots)) where

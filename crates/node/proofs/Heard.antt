@@ -12,11 +12,11 @@ use Rattle.wire.specs.Classes.{carries}
 use Rattle.wire.specs.Frames.{badFrame}
 use Rattle.node.specs.declared.slots.Slot.{Slot}
 use Rattle.node.specs.declared.Node.{Node}
-use Rattle.node.specs.Slots.{empty, isOf, isReceiver, indexOf}
+use Rattle.node.specs.Slots.{empty, isOf, isReceiver}
 use Rattle.node.specs.Nodes.{slotOf, withSlots, refused, done}
 use Rattle.node.specs.Hear.{hearRoom, clashes, heardBy, deliveredAtOnce, hearAt, hear}
 use Rattle.wire.proofs.Frames.{frame-bounds}
-use Rattle.node.proofs.Finding.{slot-found, slot-stored, slot-missed}
+use Rattle.node.proofs.Finding.{indexOf, slot-found, slot-stored, slot-missed}
 
 -- the identifier of a frame splits
 pub frame-splits : (id : BusId) (dlc len : ℕ) → badFrame id dlc len ≡ false

@@ -79,7 +79,8 @@ code-at-most-three x c m =
 -- the frames tried by ascending code
 abbrev pub firstCode : (plain payload confirmation abort : Bool) → ℕ
 firstCode plain payload confirmation abort =
-    cond (payload && not plain) 0 (cond confirmation 1 (cond abort 2 (cond payload 3 (maxBusId + 1))))
+    cond (not (payload || confirmation || abort)) (maxBusId + 1)
+    (cond (payload && not plain) 0 (cond confirmation 1 (cond abort 2 3)))
 
 by-flags : (plain payload confirmation abort : Bool)
     → lowest (one payload (cond plain 3 0) ++ one confirmation 1 ++ one abort 2) ≡ firstCode plain payload confirmation abort

@@ -1,5 +1,6 @@
 -- The ways through the next frame: on each of them what is answered is what the definition says.
-use mathlib.Core.Path.{_≡_, ap}
+use mathlib.Core.Path.{_≡_, ap, _∙_}
+use mathlib.Core.Bool.{false}
 use mathlib.Core.List.{List}
 use Prim.Native.Nat.{ℕ, _+_, _-_, _≤_, _<_, min}
 use native.Mathlib.Omega.{arith}
@@ -13,13 +14,14 @@ use Rattle.wire.specs.Delivered.{over}
 use Rattle.node.specs.declared.slots.Slot.{Slot}
 use Rattle.node.specs.declared.Node.{Node}
 use Rattle.node.specs.declared.Given.{Given}
-use Rattle.node.specs.Slots.{isOf, indexOf}
+use Rattle.node.specs.Slots.{isOf}
 use Rattle.node.specs.Nodes.{withSlots, Outcome, refused, given}
-use Rattle.node.specs.NextFrame.{nextRoom, pendingIn, pendingIds, lowest, givenOut, payloadFor, give, nextFrame}
+use Rattle.node.specs.Request.{hasPending}
+use Rattle.node.specs.NextFrame.{nextRoom, pendingCodes, pendingIn, pendingIds, lowest, givenOut, payloadFor, give, nextFrame}
 use Rattle.node.specs.Calls.{Call}
 use Rattle.node.proofs.Unbounded.{PromisedWritten, promised-written}
-use Rattle.node.proofs.Finding.{step-back, slot-found, slot-stored, some-found}
-use Rattle.node.proofs.Lowest.{lowest-append, lowest-is-one, pending-has-slot}
+use Rattle.node.proofs.Finding.{indexOf, step-back, slot-found, slot-stored, some-found}
+use Rattle.node.proofs.Lowest.{lowest-at-most, lowest-append, lowest-is-one, lowest-code, no-code, pending-has-slot}
 
 -- the loop that looks for the lowest, from the end of the table to its front
 pub lowest-past-the-end : (l : List Slot) (i : ℕ) → length l ≡ i → maxBusId + 1 ≡ lowest (pendingIds (drop i l))
@@ -30,6 +32,14 @@ pub lowest-step : (l : List Slot) (i : ℕ) (d : Slot) → 0 < i → i ≤ lengt
     → lowest (pendingIds (drop (i - 1) l)) ≡ min (lowest (pendingIn (getD l (i - 1) d))) (lowest (pendingIds (drop i l)))
 unfolding pendingIds
 lowest-step l i d some-left inside = rw (step-back l i d some-left inside) (lowest-append (pendingIn (getD l (i - 1) d)) (pendingIds (drop i l)))
+
+-- a slot with nothing pending is passed over
+pub lowest-passed : (l : List Slot) (i : ℕ) (d : Slot) → 0 < i → i ≤ length l → hasPending (getD l (i - 1) d .pending) ≡ false
+    → lowest (pendingIds (drop i l)) ≡ lowest (pendingIds (drop (i - 1) l))
+lowest-passed l i d some-left inside nothing =
+    let x = getD l (i - 1) d in
+    let code : lowest (pendingCodes x) ≡ maxBusId + 1 = lowest-code x ∙ rw nothing in
+    omega (arith, lowest-step l i d some-left inside, no-code x (omega arith), lowest-at-most (pendingIds (drop i l)))
 
 module _ (output : List ℕ) (n : Node) where
   abbrev Answers : Given → (written : List ℕ) → Type 0
@@ -42,27 +52,27 @@ module _ (output : List ℕ) (n : Node) where
   unfolding nextFrame
   short-output h = answers (refused n ShortOutput) (rw (lt-ltb (length output) nextRoom h))
 
-  module _ (room : nextRoom ≤ length output) (id : BusId) (low : id ≡ record { 0 = lowest (pendingIds (n .slots)) }) where
-    number : id .0 ≡ lowest (pendingIds (n .slots))
-    number = ap (λ (k : BusId). k .0) low
+  module _ (room : nextRoom ≤ length output) (low : ℕ) (is-lowest : low ≡ lowest (pendingIds (n .slots))) where
+    abbrev id : BusId
+    id = record { 0 = low }
 
-    pub none-pending : maxBusId < id .0 → Answers (given (refused n Nothing)) output
+    pub none-pending : maxBusId < low → Answers (given (refused n Nothing)) output
     unfolding nextFrame
-    none-pending h = answers (refused n Nothing) (rw (le-ltb (length output) nextRoom room, ← number, lt-ltb maxBusId (id .0) h))
+    none-pending h = answers (refused n Nothing) (rw (le-ltb (length output) nextRoom room, ← is-lowest, lt-ltb maxBusId low h))
 
-    module _ (in-range : id .0 ≤ maxBusId) (parts : Parts) (apart : parts ≡ split id) (i : ℕ)
+    module _ (in-range : low ≤ maxBusId) (parts : Parts) (apart : parts ≡ split id) (i : ℕ)
         (at-index : i ≡ indexOf (isOf (parts .stream)) (n .slots)) where
       in-parts : parts ≡ record { reply = Done; stream = streamOf id; code = codeOf id }
       unfolding split
-      in-parts = rw (apart, le-leb (id .0) maxBusId in-range)
+      in-parts = rw (apart, le-leb low maxBusId in-range)
 
       of-stream : i ≡ indexOf (isOf (streamOf id)) (n .slots)
       of-stream = rw in-parts at at-index
 
       pub frame-has-slot : i < length (n .slots)
       frame-has-slot =
-          let pending = lowest-is-one (pendingIds (n .slots)) (omega (arith, number)) in
-          let there = rw (← number) at (pending-has-slot (n .slots) pending) in
+          let pending = lowest-is-one (pendingIds (n .slots)) (omega arith) in
+          let there = rw (← is-lowest) at (pending-has-slot (n .slots) pending) in
           rw of-stream (some-found (isOf (streamOf id)) (n .slots) there)
 
       frame : (d x : Slot) → x ≡ givenOut (codeOf id) (getD (n .slots) i d)
@@ -75,7 +85,7 @@ module _ (output : List ℕ) (n : Node) where
       unfolding nextFrame give
       frame d x made =
           let found = slot-found n (streamOf id) i of-stream d frame-has-slot in
-          rw (le-ltb (length output) nextRoom room, ← number, le-ltb maxBusId (id .0) in-range, ← found, made)
+          rw (le-ltb (length output) nextRoom room, ← is-lowest, le-ltb maxBusId low in-range, ← found, made)
           (rw (slot-stored n (streamOf id) i of-stream (givenOut (codeOf id)) d frame-has-slot))
 
       pub frame-given : (d x : Slot) (len : ℕ) (written : List ℕ)

@@ -10,11 +10,11 @@ use Rattle.wire.specs.declared.ids.Stream.{Stream}
 use Rattle.wire.specs.declared.reply.Reply.the-variants.{BadLength, NotSender, Busy}
 use Rattle.node.specs.declared.slots.Slot.{Slot}
 use Rattle.node.specs.declared.Node.{Node}
-use Rattle.node.specs.Slots.{isOf, isSender, indexOf}
+use Rattle.node.specs.Slots.{isOf, isSender}
 use Rattle.node.specs.Nodes.{withSlots, Outcome, refused, done, answered}
 use Rattle.node.specs.Request.{busy, requested, request}
 use Rattle.node.specs.Calls.{Call}
-use Rattle.node.proofs.Finding.{slot-found, slot-stored, slot-missed}
+use Rattle.node.proofs.Finding.{indexOf, slot-found, slot-stored, slot-missed}
 use Rattle.node.proofs.Unbounded.{Promised, promised}
 
 module _ (s : Stream) (payload : List ℕ) (n : Node) where

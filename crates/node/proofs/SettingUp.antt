@@ -11,12 +11,12 @@ use Rattle.wire.specs.declared.reply.Reply.the-variants.{BadSettings, TableFull
 use Rattle.wire.specs.Settings.{legal}
 use Rattle.node.specs.declared.slots.Slot.{Slot}
 use Rattle.node.specs.declared.Node.{Node}
-use Rattle.node.specs.Slots.{empty, isFree, isOf, some, indexOf}
+use Rattle.node.specs.Slots.{empty, isFree, isOf, some}
 use Rattle.node.specs.Nodes.{hasSlot, withSlots, Outcome, refused, done, answered}
 use Rattle.node.specs.SetUp.{slotFor, setUp}
 use Rattle.node.specs.Calls.{Call}
 use Rattle.node.proofs.Unbounded.{Promised, promised}
-use Rattle.node.proofs.Finding.{found, missed}
+use Rattle.node.proofs.Finding.{indexOf, found, missed}
 
 module _ (s : Stream) (settings : Settings) (n : Node) where
   abbrev Answers : Outcome → Type 0

@@ -3,12 +3,14 @@
 use mathlib.Core.Path.{_≡_, refl}
 use mathlib.Core.Bool.{Bool, true, false, not, _&&_, _||_, and-true, and-false, or-false, and-assoc, false≢true}
 use Prim.Native.Nat.{ℕ, _+_, _<_, _≤_}
-use borrow.Author.Tests.{lt-ltb, le-ltb, ne-eqb, eqb-true}
+use native.Mathlib.Omega.{arith}
+use lib.Dec.{ltb}
+use borrow.Author.Tests.{lt-ltb, le-ltb, ltb-false, ne-eqb, eqb-true}
 use Rattle.wire.specs.Settings.{isImd, isTwoMessage}
 use Rattle.node.specs.declared.slots.Slot.{Slot}
 use Rattle.node.specs.Slots.{isReceiver, isSender}
 use Rattle.node.specs.Tick.{late, due, holdOver, lapsed}
-use Rattle.node.specs.Selection.{stirs, keyOf}
+use Rattle.node.specs.Selection.{stirs, mayStir, keyOf}
 use Rattle.node.proofs.Choices.{neither}
 
 both-sides : (two confirmed : Bool) → two && not confirmed ≡ true → (two ≡ true) × (confirmed ≡ false)
@@ -66,6 +68,23 @@ module _ (age : ℕ) (x : Slot) where
   pub unheld-is-still : x .message .held ≡ false → stirs age x ≡ false
   unfolding late due holdOver stirs
   unheld-is-still h = rw h (simp and-false)
+
+  not-late : (two : Bool) → isTwoMessage (x .settings) ≡ two → two && ltb (x .settings .dc) age ≡ false → late age x ≡ false
+  unfolding late
+  not-late true t young = rw young (simp and-false)
+  not-late false t young = rw t (simp and-false)
+
+  pub young-is-still : mayStir age x ≡ false → stirs age x ≡ false
+  unfolding mayStir stirs
+  young-is-still e = go (x .message .held) refl e
+    where
+      go : (held : Bool) → x .message .held ≡ held
+          → held && (ltb (x .settings .dd) age || isTwoMessage (x .settings) && ltb (x .settings .dc) age) ≡ false → stirs age x ≡ false
+      go false h e = unheld-is-still h
+      go true h e =
+          let n = neither (ltb (x .settings .dd) age) (isTwoMessage (x .settings) && ltb (x .settings .dc) age) e in
+          let young = ltb-false (x .settings .dd) age (n .0) in
+          rw (not-late _ refl (n .1), ← young-is-not-due young, ← young-is-held-on (omega arith))
 
   module _ (e : stirs age x ≡ false) where
     pub still-is-not-due : due age x ≡ false

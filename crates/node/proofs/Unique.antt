@@ -1,66 +1,94 @@
--- Each of the five promises permits, for every node and every input, one answer and one content of the lent output.
-use Prim.Native.Nat.{ℕ}
-use mathlib.Core.Path.{_≡_, sym, _∙_}
-use mathlib.Core.List.{List}
-use Rattle.wire.specs.declared.ids.Stream.{Stream}
-use Rattle.wire.specs.declared.ids.BusId.{BusId}
-use Rattle.wire.specs.declared.settings.Settings.{Settings}
-use Rattle.wire.specs.Delivered.{over}
-use Rattle.node.specs.declared.Node.{Node}
-use Rattle.node.specs.declared.Answered.{Answered}
-use Rattle.node.specs.declared.Delivered.{Delivered}
-use Rattle.node.specs.declared.Given.{Given}
-use Rattle.node.specs.Nodes.{Outcome, answered, delivered, given}
-use Rattle.node.specs.Clock.{rolled}
-use Rattle.node.specs.SetUp as setting
-use Rattle.node.specs.Hear as hearing
-use Rattle.node.specs.Tick as ticking
-use Rattle.node.specs.Request as requesting
-use Rattle.node.specs.NextFrame as giving
+-- Every public promise is met by one answer only, for every node and every input, and leaves a lent output one content only.
+use denote.Ref.{now}
+use Rattle.wire.proofs.Unique.{OneAnswer, OneContent, same}
+use Rattle.node.proofs.Node.set_up.Reads as set-up
+use Rattle.node.proofs.Node.hear.Reads as hear
+use Rattle.node.proofs.Node.tick.Reads as tick
+use Rattle.node.proofs.Node.request.Reads as request
+use Rattle.node.proofs.Node.next_frame.Reads as next-frame
+use Rattle.node.proofs.Node.fresh.Reads as fresh
+use Rattle.node.proofs.slots.Slot.empty.Reads as empty
+use Rattle.node.proofs.slots.Slot.is_free.Reads as is-free
+use Rattle.node.proofs.slots.Slot.is_of.Reads as is-of
+use Rattle.node.proofs.slots.Slot.is_receiver.Reads as is-receiver
+use Rattle.node.proofs.slots.Slot.is_sender.Reads as is-sender
+use Rattle.node.proofs.slots.Slot.is_busy.Reads as is-busy
+use Rattle.node.proofs.slots.Slot.set_up.Reads as slot-set-up
+use Rattle.node.proofs.slots.Slot.lowest_code.Reads as lowest-code
+use Rattle.node.proofs.slots.Slot.lowest_pending.Reads as lowest-pending
+use Rattle.node.proofs.slots.Slot.given_out.Reads as given-out
+use Rattle.node.proofs.slots.Message.payload_length.Reads as payload-length
+use Rattle.node.proofs.slots.Message.same.Reads as same-payload
+use Rattle.node.proofs.slots.pad.Reads as pad
+use Rattle.node.proofs.slots.Pending.any.Reads as any-pending
 
--- the answer, and what is left in the output, are those of an outcome
-abbrev pub Leaves : {A : Type 0} → (Outcome → A) → Outcome → (entry : List ℕ) → (r : A) → (exit : List ℕ) → Type 0
-Leaves answer o entry r exit = (r ≡ answer o) × (exit ≡ over (o .bytes) entry)
+-- ── the five calls ──
+pub set-up-unique : OneAnswer set-up.Post
+set-up-unique l input a b s t p q = same (p .0) (q .0)
 
--- ── the promises ──
-abbrev pub SetUpPromise : Stream → Settings → Node → Answered → Type 0
-SetUpPromise s settings n r = r ≡ answered (setting.setUp s settings n)
+pub hear-unique : OneAnswer hear.Post
+hear-unique l input a b s t p q = same (p .0 .0) (q .0 .0)
 
-abbrev pub HearPromise : BusId → (dlc : ℕ) → (payload entry : List ℕ) → Node → Delivered → (exit : List ℕ) → Type 0
-HearPromise id dlc payload entry n r exit = Leaves delivered (hearing.hear id dlc payload entry n) entry r exit
+pub hear-content-unique : OneContent hear.Post (λ l e. now (e .1 .1 .1 .1 .0))
+hear-content-unique l input a b s t p q = same (p .0 .1) (q .0 .1)
 
-abbrev pub TickPromise : (entry : List ℕ) → Node → Delivered → (exit : List ℕ) → Type 0
-TickPromise entry n r exit = Leaves delivered (ticking.tick rolled entry n) entry r exit
+pub tick-unique : OneAnswer tick.Post
+tick-unique l input a b s t p q = same (p .0 .0) (q .0 .0)
 
-abbrev pub RequestPromise : Stream → (payload : List ℕ) → Node → Answered → Type 0
-RequestPromise s payload n r = r ≡ answered (requesting.request s payload n)
+pub tick-content-unique : OneContent tick.Post (λ l e. now (e .1 .0))
+tick-content-unique l input a b s t p q = same (p .0 .1) (q .0 .1)
 
-abbrev pub NextFramePromise : (entry : List ℕ) → Node → Given → (exit : List ℕ) → Type 0
-NextFramePromise entry n r exit = Leaves given (giving.nextFrame entry n) entry r exit
+pub request-unique : OneAnswer request.Post
+request-unique l input a b s t p q = same (p .0) (q .0)
 
--- ── what equals one thing is equal ──
-pub only-one : {A : Type 0} {a x y : A} → x ≡ a → y ≡ a → x ≡ y
-only-one p q = p ∙ sym q
+pub next-frame-unique : OneAnswer next-frame.Post
+next-frame-unique l input a b s t p q = same (p .0 .0) (q .0 .0)
 
-only-one-each : {A B : Type 0} {a x y : A} {b v w : B} → (x ≡ a) × (v ≡ b) → (y ≡ a) × (w ≡ b) → (x ≡ y) × (v ≡ w)
-only-one-each p q = (only-one (p .0) (q .0), only-one (p .1) (q .1))
+pub next-frame-content-unique : OneContent next-frame.Post (λ l e. now (e .1 .0))
+next-frame-content-unique l input a b s t p q = same (p .0 .1) (q .0 .1)
 
-pub set-up-unique : (s : Stream) (settings : Settings) (n : Node) {r r′ : Answered}
-    → SetUpPromise s settings n r → SetUpPromise s settings n r′ → r ≡ r′
-set-up-unique s settings n p q = only-one p q
+-- ── the leaves ──
+pub fresh-unique : OneAnswer fresh.Post
+fresh-unique l input a b s t = same
 
-pub hear-unique : (id : BusId) (dlc : ℕ) (payload entry : List ℕ) (n : Node) {r r′ : Delivered} {exit exit′ : List ℕ}
-    → HearPromise id dlc payload entry n r exit → HearPromise id dlc payload entry n r′ exit′ → (r ≡ r′) × (exit ≡ exit′)
-hear-unique id dlc payload entry n p q = only-one-each p q
+pub empty-unique : OneAnswer empty.Post
+empty-unique l input a b s t = same
 
-pub tick-unique : (entry : List ℕ) (n : Node) {r r′ : Delivered} {exit exit′ : List ℕ}
-    → TickPromise entry n r exit → TickPromise entry n r′ exit′ → (r ≡ r′) × (exit ≡ exit′)
-tick-unique entry n p q = only-one-each p q
+pub is-free-unique : OneAnswer is-free.Post
+is-free-unique l input a b s t = same
 
-pub request-unique : (s : Stream) (payload : List ℕ) (n : Node) {r r′ : Answered}
-    → RequestPromise s payload n r → RequestPromise s payload n r′ → r ≡ r′
-request-unique s payload n p q = only-one p q
+pub is-of-unique : OneAnswer is-of.Post
+is-of-unique l input a b s t = same
 
-pub next-frame-unique : (entry : List ℕ) (n : Node) {r r′ : Given} {exit exit′ : List ℕ}
-    → NextFramePromise entry n r exit → NextFramePromise entry n r′ exit′ → (r ≡ r′) × (exit ≡ exit′)
-next-frame-unique entry n p q = only-one-each p q
+pub is-receiver-unique : OneAnswer is-receiver.Post
+is-receiver-unique l input a b s t = same
+
+pub is-sender-unique : OneAnswer is-sender.Post
+is-sender-unique l input a b s t = same
+
+pub is-busy-unique : OneAnswer is-busy.Post
+is-busy-unique l input a b s t = same
+
+pub slot-set-up-unique : OneAnswer slot-set-up.Post
+slot-set-up-unique l input a b s t = same
+
+pub lowest-code-unique : OneAnswer lowest-code.Post
+lowest-code-unique l input a b s t = same
+
+pub lowest-pending-unique : OneAnswer lowest-pending.Post
+lowest-pending-unique l input a b s t = same
+
+pub given-out-unique : OneAnswer given-out.Post
+given-out-unique l input a b s t = same
+
+pub payload-length-unique : OneAnswer payload-length.Post
+payload-length-unique l input a b s t = same
+
+pub same-payload-unique : OneAnswer same-payload.Post
+same-payload-unique l input a b s t = same
+
+pub pad-unique : OneAnswer pad.Post
+pad-unique l input a b s t = same
+
+pub any-pending-unique : OneAnswer any-pending.Post
+any-pending-unique l input a b s t = same

@@ -4,13 +4,18 @@ use Prim.Native.Nat.{ℕ, suc, _+_}
 use mathlib.Core.Bool.{Bool, cond, _&&_, _||_}
 use mathlib.Core.List.{List, [], _∷_}
 use lib.ListN.{getD}
-use lib.Dec.{eqb, leb}
+use lib.Dec.{eqb, leb, ltb}
+use Rattle.wire.specs.Settings.{isTwoMessage}
 use Rattle.node.specs.declared.slots.Slot.{Slot}
 use Rattle.node.specs.Tick.{late, due, holdOver}
 
 -- the tick changes the slot
 unfoldable pub stirs : (age : ℕ) → Slot → Bool
 stirs age x = late age x || due age x || holdOver age x
+
+-- a message is held, and is older than a delay of its class
+unfoldable pub mayStir : (age : ℕ) → Slot → Bool
+mayStir age x = x .message .held && (ltb (x .settings .dd) age || isTwoMessage (x .settings) && ltb (x .settings .dc) age)
 
 -- one above the stream of a slot that is due; 0, where it is not
 unfoldable pub keyOf : (age : ℕ) → Slot → ℕ

@@ -1,5 +1,5 @@
 -- A slot: its parts, what changes them, and finding one in the table.
-use Prim.Native.Nat.{ℕ, suc}
+use Prim.Native.Nat.{ℕ}
 use mathlib.Core.Bool.{Bool, true, false, cond, not, _&&_, _||_}
 use mathlib.Core.List.{List, [], _∷_, _++_}
 use lib.ListN.{length, take, drop, replicate}
@@ -101,8 +101,3 @@ onFirst test change (x ∷ xs) = cond (test x) (change x ∷ xs) (x ∷ onFirst 
 unfoldable pub some : (Slot → Bool) → List Slot → Bool
 some test [] = false
 some test (x ∷ xs) = test x || some test xs
-
--- where the first slot stands of which the test is true; where there is none, the table's length
-unfoldable pub indexOf : (Slot → Bool) → List Slot → ℕ
-indexOf test [] = 0
-indexOf test (x ∷ xs) = cond (test x) 0 (suc (indexOf test xs))

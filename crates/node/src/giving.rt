@@ -15,7 +15,7 @@ ghost use Rattle.wire.specs.Frames.{maxPayload};
 ghost use Rattle.wire.specs.Delivered.{over};
 ghost use Rattle.node.specs.Slots.{payloadOf};
 ghost use Rattle.node.specs.Nodes.{given};
-ghost use Rattle.node.specs.NextFrame.{pendingCodes, pendingIn, pendingIds, lowest, givenOut, payloadFor, nextFrame};
+ghost use Rattle.node.specs.NextFrame.{pendingCodes, pendingIn, lowest, givenOut, payloadFor, nextFrame};
 ghost use Rattle.node.specs.Clock.{rolled, unbounded};
 ghost use Rattle.node.specs.Calls.{Call, after, rollOutcome};
 
@@ -27,20 +27,21 @@ impl Slot {
     pub fn lowest_code(self) -> u32
         ensures { λ r. ⌜ r ≡ lowest (pendingCodes self) ⌝ }
     {
+        let p = self.pending;
+        if !p.any() {
+            return NONE;
+        }
         let plain = self.settings.class == Settings::PLAIN;
-        if self.pending.payload & !plain {
+        if p.payload & !plain {
             return 0;
         }
-        if self.pending.confirmation {
+        if p.confirmation {
             return 1;
         }
-        if self.pending.abort {
+        if p.abort {
             return 2;
         }
-        if self.pending.payload {
-            return 3;
-        }
-        NONE
+        3
     }
 
     // The lowest bus identifier of the slot's pending frames.
@@ -111,25 +112,13 @@ fn lower(a: u32, b: u32) -> u32
 }
 
 impl Node {
-    // The lowest bus identifier of all pending frames.
-    pub fn lowest_pending(self) -> BusId
-        ensures { λ r. ⌜ r ≡ record { 0 = lowest (pendingIds (self .slots)) } ⌝ }
-    {
-        let mut low: u32 = NONE;
-        let mut i: usize = 32;
-        while i > 0 {
-            i -= 1;
-            let s = self.slots[i];
-            let id = s.lowest_pending();
-            low = lower(id.0, low);
-        }
-        BusId(low)
-    }
-
     // Gives out the pending frame with the lowest bus identifier; it is pending no longer.
     pub fn next_frame(mut self, out: &mut [u8]) -> Given
-        ensures exact { λ r. ⌜ (r ≡ given (nextFrame (now (out .entry)) self)) × (now (out .exit) ≡ over (nextFrame (now (out .entry)) self .bytes) (now (out .entry))) ⌝ }
-        ensures unbounded { λ r. ⌜ ((h : List Call) → self ≡ after rolled h → (r ≡ given (rollOutcome (nextFrame (now (out .entry)) (after unbounded h)))) × (now (out .exit) ≡ over (nextFrame (now (out .entry)) (after unbounded h) .bytes) (now (out .entry)))) ⌝ }
+        ensures exact { λ r. ⌜ (r ≡ given (nextFrame (now (out .entry)) self))
+            × (now (out .exit) ≡ over (nextFrame (now (out .entry)) self .bytes) (now (out .entry))) ⌝ }
+        ensures unbounded { λ r. ⌜ ((h : List Call) → self ≡ after rolled h
+            → (r ≡ given (rollOutcome (nextFrame (now (out .entry)) (after unbounded h))))
+            × (now (out .exit) ≡ over (nextFrame (now (out .entry)) (after unbounded h) .bytes) (now (out .entry)))) ⌝ }
     {
         if out.len() < 8 {
             return Given {
@@ -139,8 +128,19 @@ impl Node {
                 len: 0,
             };
         }
-        let id = self.lowest_pending();
-        if id.0 > BusId::MAX {
+        // The lowest bus identifier of all pending frames.
+        let mut low: u32 = NONE;
+        let mut k: usize = 32;
+        while k > 0 {
+            k -= 1;
+            let s = self.slots[k];
+            let p = s.pending;
+            if p.any() {
+                let id = s.lowest_pending();
+                low = lower(id.0, low);
+            }
+        }
+        if low > BusId::MAX {
             return Given {
                 node: self,
                 reply: Reply::Nothing,
@@ -148,9 +148,19 @@ impl Node {
                 len: 0,
             };
         }
+        let id = BusId(low);
         let parts = id.split();
+        let stream = parts.stream;
         let code = parts.code;
-        let i = self.find(parts.stream);
+        // Where the stream's slot stands: it has one.
+        let mut i: usize = 0;
+        while i < 32 {
+            let s = self.slots[i];
+            if s.is_of(stream) {
+                break;
+            }
+            i += 1;
+        }
         let s = self.slots[i];
         let len = give_payload(out, s, code);
         let t = s.given_out(code);

@@ -99,7 +99,8 @@ impl Slot {
 // Writes the record of a plain frame; the other codes deliver nothing yet.
 fn deliver_plain(out: &mut [u8], stream: Stream, code: u32, payload: &[u8]) -> usize
     requires { ⌜ (length (now payload) ≤ maxPayload) × (hearRoom ≤ length (now out)) ⌝ }
-    ensures { λ r. ⌜ (r ≡ length (cond (eqb code 3) (recordOf stream (now (payload .entry))) [])) × (now (out .exit) ≡ over (cond (eqb code 3) (recordOf stream (now (payload .entry))) []) (now (out .entry))) ⌝ }
+    ensures { λ r. ⌜ (r ≡ length (cond (eqb code 3) (recordOf stream (now (payload .entry))) []))
+        × (now (out .exit) ≡ over (cond (eqb code 3) (recordOf stream (now (payload .entry))) []) (now (out .entry))) ⌝ }
 {
     if code != 3 {
         return 0;
@@ -113,8 +114,11 @@ impl Node {
 
     // Takes in a frame that the controller received.
     pub fn hear(mut self, id: BusId, dlc: u8, payload: &[u8], out: &mut [u8]) -> Delivered
-        ensures exact { λ r. ⌜ (r ≡ delivered (hear id dlc (now (payload .entry)) (now (out .entry)) self)) × (now (out .exit) ≡ over (hear id dlc (now (payload .entry)) (now (out .entry)) self .bytes) (now (out .entry))) ⌝ }
-        ensures unbounded { λ r. ⌜ ((h : List Call) → self ≡ after rolled h → (r ≡ delivered (rollOutcome (hear id dlc (now (payload .entry)) (now (out .entry)) (after unbounded h)))) × (now (out .exit) ≡ over (hear id dlc (now (payload .entry)) (now (out .entry)) (after unbounded h) .bytes) (now (out .entry)))) ⌝ }
+        ensures exact { λ r. ⌜ (r ≡ delivered (hear id dlc (now (payload .entry)) (now (out .entry)) self))
+            × (now (out .exit) ≡ over (hear id dlc (now (payload .entry)) (now (out .entry)) self .bytes) (now (out .entry))) ⌝ }
+        ensures unbounded { λ r. ⌜ ((h : List Call) → self ≡ after rolled h
+            → (r ≡ delivered (rollOutcome (hear id dlc (now (payload .entry)) (now (out .entry)) (after unbounded h))))
+            × (now (out .exit) ≡ over (hear id dlc (now (payload .entry)) (now (out .entry)) (after unbounded h) .bytes) (now (out .entry)))) ⌝ }
     {
         if out.len() < Node::HEAR_ROOM {
             return Delivered {
@@ -133,7 +137,15 @@ impl Node {
         let parts = id.split();
         let stream = parts.stream;
         let code = parts.code;
-        let i = self.find(stream);
+        // Where the stream's slot stands; 32 where it has none.
+        let mut i: usize = 0;
+        while i < 32 {
+            let s = self.slots[i];
+            if s.is_of(stream) {
+                break;
+            }
+            i += 1;
+        }
         if i >= 32 {
             return Delivered {
                 node: self,
@@ -165,10 +177,11 @@ impl Node {
         }
         let heard = slot.hear(self.counter, code, payload);
         self.slots[i] = heard;
+        let written = deliver_plain(out, stream, code, payload);
         Delivered {
             node: self,
             reply: Reply::Done,
-            written: deliver_plain(out, stream, code, payload),
+            written: written,
         }
     }
 }

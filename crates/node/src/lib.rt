@@ -1,11 +1,10 @@
 // The node: one module's protocol state, and the five calls on it. Each call takes the whole node
-// and gives the whole node back, with a numbered reply.
+// and gives the whole node back, with a numbered reply. A call looks for slots in a loop of its own,
+// since a function that did so would be handed a copy of the node.
 use crate::slots::Slot;
 use wire::ids::BusId;
-use wire::ids::Stream;
 use wire::reply::Reply;
 ghost use mathlib.Core.Path.{_≡_};
-ghost use Rattle.node.specs.Slots.{indexOf, isFree, isOf};
 ghost use Rattle.node.specs.Nodes.{fresh};
 
 pub mod giving;
@@ -31,38 +30,6 @@ impl Node {
         ensures { λ r. ⌜ r ≡ fresh ⌝ }
     {
         Node::FRESH
-    }
-
-    // Where the stream's slot stands; 32 where it has none.
-    pub fn find(self, stream: Stream) -> usize
-        ensures { λ r. ⌜ r ≡ indexOf (isOf stream) (self .slots) ⌝ }
-    {
-        let mut at: usize = 32;
-        let mut i: usize = 32;
-        while i > 0 {
-            i -= 1;
-            let s = self.slots[i];
-            if s.is_of(stream) {
-                at = i;
-            }
-        }
-        at
-    }
-
-    // Where the first free slot stands; 32 where there is none.
-    pub fn find_free(self) -> usize
-        ensures { λ r. ⌜ r ≡ indexOf isFree (self .slots) ⌝ }
-    {
-        let mut at: usize = 32;
-        let mut i: usize = 32;
-        while i > 0 {
-            i -= 1;
-            let s = self.slots[i];
-            if s.is_free() {
-                at = i;
-            }
-        }
-        at
     }
 }
 

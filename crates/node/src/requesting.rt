@@ -25,7 +25,8 @@ impl Slot {
     pub fn is_busy(self) -> bool
         ensures { λ r. ⌜ r ≡ busy self ⌝ }
     {
-        self.message.held | (self.pending.payload | self.pending.confirmation | self.pending.abort)
+        let p = self.pending;
+        self.message.held | p.any()
     }
 
     // The slot once its stream is to send this payload.
@@ -74,7 +75,8 @@ impl Node {
     // Takes a message to send on one of the node's own streams.
     pub fn request(mut self, stream: Stream, payload: &[u8]) -> Answered
         ensures exact { λ r. ⌜ r ≡ answered (request stream (now (payload .entry)) self) ⌝ }
-        ensures unbounded { λ r. ⌜ ((h : List Call) → self ≡ after rolled h → r ≡ answered (rollOutcome (request stream (now (payload .entry)) (after unbounded h)))) ⌝ }
+        ensures unbounded { λ r. ⌜ ((h : List Call) → self ≡ after rolled h
+            → r ≡ answered (rollOutcome (request stream (now (payload .entry)) (after unbounded h)))) ⌝ }
     {
         if payload.len() > 8 {
             return Answered {
@@ -82,7 +84,15 @@ impl Node {
                 reply: Reply::BadLength,
             };
         }
-        let i = self.find(stream);
+        // Where the stream's slot stands; 32 where it has none.
+        let mut i: usize = 0;
+        while i < 32 {
+            let s = self.slots[i];
+            if s.is_of(stream) {
+                break;
+            }
+            i += 1;
+        }
         if i >= 32 {
             return Answered {
                 node: self,

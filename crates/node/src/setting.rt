@@ -41,13 +41,30 @@ impl Node {
                 reply: Reply::BadSettings,
             };
         }
-        if self.find(stream) < 32 {
+        // Where the first free slot stands; 32 where there is none.
+        let mut i: usize = 0;
+        while i < 32 {
+            let s = self.slots[i];
+            if s.is_free() {
+                break;
+            }
+            i += 1;
+        }
+        // The same of the stream's slot.
+        let mut k: usize = 0;
+        while k < 32 {
+            let s = self.slots[k];
+            if s.is_of(stream) {
+                break;
+            }
+            k += 1;
+        }
+        if k < 32 {
             return Answered {
                 node: self,
                 reply: Reply::Taken,
             };
         }
-        let i = self.find_free();
         if i >= 32 {
             return Answered {
                 node: self,

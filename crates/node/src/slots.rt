@@ -6,6 +6,7 @@ ghost use Prim.Native.Nat.{min};
 ghost use lib.ListN.{length, take};
 ghost use Rattle.wire.specs.Frames.{maxPayload};
 ghost use Rattle.node.specs.Slots.{empty, padded, payloadOf, same, isFree, isOf, isReceiver, isSender};
+ghost use Rattle.node.specs.Request.{hasPending};
 
 pub struct Message {
     // The counter when the message was taken up.
@@ -88,6 +89,13 @@ impl Pending {
         confirmation: false,
         abort: false,
     };
+
+    // Whether any frame is pending.
+    pub fn any(self) -> bool
+        ensures { λ r. ⌜ r ≡ hasPending self ⌝ }
+    {
+        self.payload | self.confirmation | self.abort
+    }
 }
 
 pub struct Slot {

@@ -14,7 +14,7 @@ ghost use Rattle.wire.specs.Frames.{maxPayload};
 ghost use Rattle.wire.specs.Delivered.{over};
 ghost use Rattle.node.specs.Nodes.{delivered};
 ghost use Rattle.node.specs.Tick.{late, due, holdOver, lapsed, tick};
-ghost use Rattle.node.specs.Selection.{stirs, keyOf, leastAt};
+ghost use Rattle.node.specs.Selection.{stirs, mayStir, keyOf, leastAt};
 ghost use Rattle.node.specs.Clock.{rolled, unbounded};
 ghost use Rattle.node.specs.Calls.{Call, after, rollOutcome};
 
@@ -93,6 +93,23 @@ impl Slot {
         let m = self.message;
         if wide16(age) > wide16(s.rd) + wide16(s.dd) {
             return self.used & (s.role == Settings::SEND) & m.held;
+        }
+        false
+    }
+
+    // Whether the message is held and old enough that a tick may change the slot.
+    fn may_stir(self, age: u16) -> bool
+        ensures { λ r. ⌜ r ≡ mayStir age self ⌝ }
+    {
+        if !self.message.held {
+            return false;
+        }
+        let s = self.settings;
+        if age > s.dd {
+            return true;
+        }
+        if s.class == Settings::TWO_MESSAGE {
+            return age > s.dc;
         }
         false
     }
@@ -176,8 +193,11 @@ impl Node {
 
     // Moves the counter by one; what is due is delivered, and what is late dropped.
     pub fn tick(mut self, out: &mut [u8]) -> Delivered
-        ensures exact { λ r. ⌜ (r ≡ delivered (tick rolled (now (out .entry)) self)) × (now (out .exit) ≡ over (tick rolled (now (out .entry)) self .bytes) (now (out .entry))) ⌝ }
-        ensures unbounded { λ r. ⌜ ((h : List Call) → self ≡ after rolled h → (r ≡ delivered (rollOutcome (tick unbounded (now (out .entry)) (after unbounded h)))) × (now (out .exit) ≡ over (tick unbounded (now (out .entry)) (after unbounded h) .bytes) (now (out .entry)))) ⌝ }
+        ensures exact { λ r. ⌜ (r ≡ delivered (tick rolled (now (out .entry)) self))
+            × (now (out .exit) ≡ over (tick rolled (now (out .entry)) self .bytes) (now (out .entry))) ⌝ }
+        ensures unbounded { λ r. ⌜ ((h : List Call) → self ≡ after rolled h
+            → (r ≡ delivered (rollOutcome (tick unbounded (now (out .entry)) (after unbounded h))))
+            × (now (out .exit) ≡ over (tick unbounded (now (out .entry)) (after unbounded h) .bytes) (now (out .entry)))) ⌝ }
     {
         if out.len() < Node::TICK_ROOM {
             return Delivered {
@@ -195,11 +215,12 @@ impl Node {
         while i > 0 {
             i -= 1;
             let slot = self.slots[i];
-            let message = slot.message;
-            if message.held {
-                let a = age(now, message.stamp);
-                if slot.stirs(a) {
-                    keys[i] = slot.key(a);
+            let a = age(now, slot.message.stamp);
+            if slot.may_stir(a) {
+                // Read again, so that of the other slots only a few fields are read.
+                let old = self.slots[i];
+                if old.stirs(a) {
+                    keys[i] = old.key(a);
                     stirring = true;
                 }
             }

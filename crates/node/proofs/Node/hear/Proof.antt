@@ -1,11 +1,12 @@
--- `Node::hear` meets its contract: each return gives the outcome that the tests on its way lead to.
+-- `Node::hear` meets its contract: the loop finds the slot's index, and each return gives the outcome that the tests on its way lead to.
 use borrow.Author.Needs.{needs}
 use borrow.Author.Tests.{not-true, not-false}
 use native.Mathlib.Omega.{arith}
 use mathlib.Core.Path.{_≡_, refl, sym, _∙_}
 use mathlib.Core.Bool.{true, false}
 use mathlib.Core.List.{List, []}
-use Prim.Native.Nat.{ℕ, _≤_, _<_}
+use mathlib.Core.Logic.{⊎-elim}
+use Prim.Native.Nat.{ℕ, _-_, _≤_, _<_}
 use denote.Ref.{now}
 use lib.ListN.{length, getD}
 use Rattle.wire.specs.declared.ids.Parts.{Parts}
@@ -15,19 +16,26 @@ use Rattle.wire.specs.Classes.{carries}
 use Rattle.wire.specs.Frames.{maxPayload, badFrame}
 use Rattle.node.specs.declared.slots.Slot.{Slot}
 use Rattle.node.specs.declared.Node.{Node}
-use Rattle.node.specs.Slots.{nonePending, isOf, isReceiver, indexOf}
+use Rattle.node.specs.Slots.{nonePending, isOf, isReceiver}
 use Rattle.node.specs.Nodes.{delivered}
 use Rattle.node.specs.Hear.{hearRoom, deliveredAtOnce}
 use Rattle.node.specs.Calls.{Call}
 use Rattle.wire.proofs.Frames.{frame-length}
-use Rattle.node.proofs.Finding.{length-of-mapped}
+use Rattle.node.proofs.Finding.{length-of-mapped, indexOf, NoneBefore, none-at-first, found-nowhere, found-here, not-here}
 use Rattle.node.proofs.Heard.{frame-splits, short-output, bad-frame, no-slot, not-mine, misfit, clash, heard}
 use Rattle.node.proofs.Unbounded.{promised-both}
 use Rattle.node.proofs.Node.hear.Statement.{statement}
 use Rattle.node.proofs.Node.hear.Tie as tie
 
+-- no slot before i is the stream's
+abbrev Inv-loop : tie.InvT-loop
+Inv-loop dlc payload out self stream code i₀ i = (i ≤ 32) × NoneBefore (isOf stream) (self .slots) i
+
+abbrev μ-loop : tie.MeasureT-loop
+μ-loop dlc payload out self stream code i₀ i = 32 - i
+
 -- ── the call ──
-module _ (s : tie.Start) where
+module _ (s : tie.Start Inv-loop μ-loop) where
   abbrev node : Node
   node = s .args .t1
 
@@ -44,15 +52,15 @@ module _ (s : tie.Start) where
   long : length (node .slots) ≡ 32
   long = search (needs, length-of-mapped)
 
-returns : tie.Need-returns
+returns : tie.Need-returns Inv-loop μ-loop
 returns c =
     let s = c .before .before .before in
     promised-both (call s) (node s) delivered (output s) (short-output _ _ _ _ _ (c .if1 .taken)) refl refl
 
-bad-frame-requires : tie.Need-bad-frame-requires
+bad-frame-requires : tie.Need-bad-frame-requires Inv-loop μ-loop
 bad-frame-requires c κs = search needs
 
-returns-2 : tie.Need-returns-2
+returns-2 : tie.Need-returns-2 Inv-loop μ-loop
 returns-2 c =
     let b = c .before in
     let s = b .before .before .before .before in
@@ -61,10 +69,10 @@ returns-2 c =
 
 -- ── a frame ──
 -- the call, seen from past the second test; `start-3` and `start-4` from further on
-abbrev start-2 : tie.Else2 → tie.Start
+abbrev start-2 : tie.Else2 Inv-loop μ-loop → tie.Start Inv-loop μ-loop
 start-2 c = c .before .before .before .before .before
 
-module _ (c : tie.Else2) where
+module _ (c : tie.Else2 Inv-loop μ-loop) where
   room : hearRoom ≤ length (output (start-2 c))
   room = c .before .before .if1 .left
 
@@ -74,32 +82,63 @@ module _ (c : tie.Else2) where
   small : length (payload (start-2 c)) ≤ maxPayload
   small = frame-length (start-2 c .args .id) (start-2 c .args .dlc) (length (payload (start-2 c))) good
 
-split-requires : tie.Need-split-requires
+split-requires : tie.Need-split-requires Inv-loop μ-loop
 split-requires c κs = search needs
 
-abbrev parts : tie.Start → Parts
+abbrev parts : tie.Start Inv-loop μ-loop → Parts
 parts s = record { reply = Done; stream = streamOf (s .args .id); code = codeOf (s .args .id) }
 
-splits : (c : tie.After-split) → c .split .result ≡ parts (start-2 (c .before))
+splits : (c : tie.After-split Inv-loop μ-loop) → c .split .result ≡ parts (start-2 (c .before))
 splits c =
     let s = start-2 (c .before) in
     c .split .ensures ∙ frame-splits (s .args .id) (s .args .dlc) (length (payload s)) (good (c .before))
 
-find-requires : tie.Need-find-requires
-find-requires c κs = search needs
+-- ── the loop ──
+loop-holds : tie.Need-loop-holds Inv-loop μ-loop
+loop-holds c = (omega arith, none-at-first _ _)
 
-abbrev start-3 : tie.After-find → tie.Start
-start-3 c = start-2 (c .before .before .before)
+mul-s : tie.Need-mul-s Inv-loop μ-loop
+mul-s c = search needs
 
-found : (c : tie.After-find) → c .find .result ≡ indexOf (isOf (streamOf (start-3 c .args .id))) (node (start-3 c) .slots)
-found c = rw (splits (c .before .before)) at (c .find .ensures)
+element-copy-out-s : tie.Need-element-copy-out-s Inv-loop μ-loop
+element-copy-out-s c = search needs
 
-returns-3 : tie.Need-returns-3
+is-of-requires : tie.Need-is-of-requires Inv-loop μ-loop
+is-of-requires c κs = search needs
+
+add-i : tie.Need-add-i Inv-loop μ-loop
+add-i c = search needs
+
+loop-less : tie.Need-loop-less Inv-loop μ-loop
+loop-less c = search needs
+
+loop-again : tie.Need-loop-again Inv-loop μ-loop
+loop-again c =
+    let l = c .before .before .before .before in
+    let s = start-2 (l .before .before .before) in
+    (omega arith, not-here _ _ _ _ (omega (arith, long s)) (l .loop .inv .1) (sym (c .before .is-of .ensures) ∙ c .if3 .left))
+
+abbrev start-3 : tie.Left-loop Inv-loop μ-loop → tie.Start Inv-loop μ-loop
+start-3 c = start-2 (c .before .before .before .before)
+
+-- it ends at the slot of the frame's stream
+found : (c : tie.Left-loop Inv-loop μ-loop) → c .before .loop .i ≡ indexOf (isOf (streamOf (start-3 c .args .id))) (node (start-3 c) .slots)
+found c =
+    let l = c .before in
+    let s = start-3 c in
+    let none = l .loop .inv .1 in
+    rw (splits (l .before .before)) at
+    (⊎-elim
+    (λ w. found-nowhere _ _ _ (omega (arith, long s)) none)
+    (λ w. found-here _ _ _ _ (omega (arith, long s)) none (sym (w .2 .ensures) ∙ w .3 .taken))
+    (c .loop-test .came))
+
+returns-3 : tie.Need-returns-3 Inv-loop μ-loop
 returns-3 c =
     let f = c .before in
-    let b = f .before .before .before in
+    let b = f .before .before .before .before in
     let s = start-3 f in
-    let none : length (node s .slots) ≤ f .find .result = omega (arith, long s) in
+    let none : length (node s .slots) ≤ f .before .loop .i = omega (arith, long s) in
     promised-both (call s) (node s) delivered (output s) (no-slot _ _ _ _ _ (room b) (good b) _ (found f) none) refl refl
 
 -- ── the slot of its stream ──
@@ -114,95 +153,95 @@ outside =
       used = false;
     }
 
-module _ (c : tie.Else3) where
-  abbrev start-4 : tie.Start
+module _ (c : tie.Else4 Inv-loop μ-loop) where
+  abbrev start-4 : tie.Start Inv-loop μ-loop
   start-4 = start-3 (c .before)
 
   abbrev slot : Slot
-  slot = getD (node start-4 .slots) (c .before .find .result) outside
+  slot = getD (node start-4 .slots) (c .before .before .loop .i) outside
 
-  inside : c .before .find .result < length (node start-4 .slots)
+  inside : c .before .before .loop .i < length (node start-4 .slots)
   inside = omega (arith, long start-4)
 
-mul-slot : tie.Need-mul-slot
+mul-slot : tie.Need-mul-slot Inv-loop μ-loop
 mul-slot c = search needs
 
-element-copy-out-slot : tie.Need-element-copy-out-slot
+element-copy-out-slot : tie.Need-element-copy-out-slot Inv-loop μ-loop
 element-copy-out-slot c = search needs
 
-is-receiver-requires : tie.Need-is-receiver-requires
+is-receiver-requires : tie.Need-is-receiver-requires Inv-loop μ-loop
 is-receiver-requires c κs = search needs
 
-returns-4 : tie.Need-returns-4
+returns-4 : tie.Need-returns-4 Inv-loop μ-loop
 returns-4 c =
     let r = c .before in
     let o = r .before .before in
-    let b = o .before .before .before .before in
+    let b = o .before .before .before .before .before in
     let s = start-4 o in
-    let sends = sym (r .is-receiver .ensures) ∙ not-true _ (c .if4 .taken) in
+    let sends = sym (r .is-receiver .ensures) ∙ not-true _ (c .if5 .taken) in
     promised-both (call s) (node s) delivered (output s) (not-mine _ _ _ _ _ (room b) (good b) _ (found (o .before)) outside (inside o) sends) refl refl
 
 -- where the slot was found, seen from past the fourth test; `place-5` from past the fifth
-abbrev place-4 : tie.Else4 → tie.Else3
+abbrev place-4 : tie.Else5 Inv-loop μ-loop → tie.Else4 Inv-loop μ-loop
 place-4 c = c .before .before .before
 
-mine : (c : tie.Else4) → isReceiver (slot (place-4 c)) ≡ true
-mine c = sym (c .before .is-receiver .ensures) ∙ not-false _ (c .if4 .left)
+mine : (c : tie.Else5 Inv-loop μ-loop) → isReceiver (slot (place-4 c)) ≡ true
+mine c = sym (c .before .is-receiver .ensures) ∙ not-false _ (c .if5 .left)
 
-carries-requires : tie.Need-carries-requires
+carries-requires : tie.Need-carries-requires Inv-loop μ-loop
 carries-requires c κs = search needs
 
-returns-5 : tie.Need-returns-5
+returns-5 : tie.Need-returns-5 Inv-loop μ-loop
 returns-5 c =
     let k = c .before in
     let o = place-4 (k .before) in
-    let b = o .before .before .before .before in
+    let b = o .before .before .before .before .before in
     let s = start-4 o in
-    let other = sym (rw (splits (o .before .before .before)) at (k .carries .ensures)) ∙ not-true _ (c .if5 .taken) in
+    let other = sym (rw (splits (o .before .before .before .before)) at (k .carries .ensures)) ∙ not-true _ (c .if6 .taken) in
     promised-both (call s) (node s) delivered (output s)
     (misfit _ _ _ _ _ (room b) (good b) _ (found (o .before)) outside (inside o) (mine (k .before)) other)
     refl refl
 
-abbrev place-5 : tie.Else5 → tie.Else3
+abbrev place-5 : tie.Else6 Inv-loop μ-loop → tie.Else4 Inv-loop μ-loop
 place-5 c = place-4 (c .before .before)
 
-fits : (c : tie.Else5) → carries (slot (place-5 c) .settings .class) (codeOf (start-4 (place-5 c) .args .id)) ≡ true
-fits c = sym (rw (splits (place-5 c .before .before .before)) at (c .before .carries .ensures)) ∙ not-false _ (c .if5 .left)
+fits : (c : tie.Else6 Inv-loop μ-loop) → carries (slot (place-5 c) .settings .class) (codeOf (start-4 (place-5 c) .args .id)) ≡ true
+fits c = sym (rw (splits (place-5 c .before .before .before .before)) at (c .before .carries .ensures)) ∙ not-false _ (c .if6 .left)
 
-clashes-requires : tie.Need-clashes-requires
+clashes-requires : tie.Need-clashes-requires Inv-loop μ-loop
 clashes-requires c κs = search needs
 
-returns-6 : tie.Need-returns-6
+returns-6 : tie.Need-returns-6 Inv-loop μ-loop
 returns-6 c =
     let l = c .before in
     let k = l .before .before in
     let o = place-5 (l .before) in
-    let b = o .before .before .before .before in
+    let b = o .before .before .before .before .before in
     let s = start-4 o in
-    let other = sym (rw (splits (o .before .before .before)) at (l .clashes .ensures)) ∙ c .if6 .taken in
+    let other = sym (rw (splits (o .before .before .before .before)) at (l .clashes .ensures)) ∙ c .if7 .taken in
     promised-both (call s) (node s) delivered (output s)
     (clash _ _ _ _ _ (room b) (good b) _ (found (o .before)) outside (inside o) (mine (k .before)) (fits (l .before)) other)
     refl refl
 
 -- ── it hears ──
-hear-requires : tie.Need-hear-requires
-hear-requires c κs = small (place-5 (c .before .before) .before .before .before .before)
+hear-requires : tie.Need-hear-requires Inv-loop μ-loop
+hear-requires c κs = small (place-5 (c .before .before) .before .before .before .before .before)
 
-mul-heard : tie.Need-mul-heard
+mul-heard : tie.Need-mul-heard Inv-loop μ-loop
 mul-heard c = search needs
 
-element-set-from-heard : tie.Need-element-set-from-heard
+element-set-from-heard : tie.Need-element-set-from-heard Inv-loop μ-loop
 element-set-from-heard c = search needs
 
-deliver-plain-requires : tie.Need-deliver-plain-requires
+deliver-plain-requires : tie.Need-deliver-plain-requires Inv-loop μ-loop
 deliver-plain-requires c κs =
-    let b = place-5 (c .before .before .before .before) .before .before .before .before in
+    let b = place-5 (c .before .before .before .before) .before .before .before .before .before in
     (small b, room b)
 
-same-length : tie.Need-same-length
+same-length : tie.Need-same-length Inv-loop μ-loop
 same-length c = search needs
 
-returns-7 : tie.Need-returns-7
+returns-7 : tie.Need-returns-7 Inv-loop μ-loop
 unfolding deliveredAtOnce
 returns-7 c =
     let w = c .before .before in
@@ -210,10 +249,10 @@ returns-7 c =
     let l = h .before .before in
     let k = l .before .before in
     let o = place-5 (l .before) in
-    let b = o .before .before .before .before in
+    let b = o .before .before .before .before .before in
     let s = start-4 o in
-    let p = splits (o .before .before .before) in
-    let same = sym (rw p at (l .clashes .ensures)) ∙ h .before .if6 .left in
+    let p = splits (o .before .before .before .before) in
+    let same = sym (rw p at (l .clashes .ensures)) ∙ h .before .if7 .left in
     let changed = rw p at (h .hear .ensures) in
     let written = rw p at (w .deliver-plain .ensures) in
     promised-both (call s) (node s) delivered (output s)
@@ -225,11 +264,19 @@ pub hear-spec : {M : Type 1} → statement M
 hear-spec =
     tie.close
     (tie.spec
+    Inv-loop
+    μ-loop
     returns
     bad-frame-requires
     returns-2
     split-requires
-    find-requires
+    loop-holds
+    mul-s
+    element-copy-out-s
+    is-of-requires
+    add-i
+    loop-less
+    loop-again
     returns-3
     mul-slot
     element-copy-out-slot

@@ -1,94 +1,226 @@
--- `Node::next_frame` meets its contract: the stream of the lowest identifier has a slot, which is found by its index, and
--- each return cites the way through the definition.
+-- `Node::next_frame` meets its contract: the first loop finds the lowest identifier, the second the slot of its stream, which has
+-- one, and each return cites the way through the definition.
 use native.Mathlib.Omega.{arith}
-use mathlib.Core.Path.{_≡_}
-use Prim.Native.Nat.{_<_}
-use lib.ListN.{length}
+use mathlib.Core.Path.{_≡_, sym, _∙_}
+use mathlib.Core.Logic.{⊎-elim}
+use Prim.Native.Nat.{_-_, _≤_, _<_}
+use mathlib.Core.List.{List}
+use lib.ListN.{length, drop}
 use denote.Ref.{now}
-use Rattle.node.proofs.Finding.{length-of-mapped}
+use Rattle.node.specs.declared.slots.Slot.{Slot}
+use Rattle.node.specs.Slots.{isOf}
+use Rattle.node.specs.NextFrame.{pendingIds, lowest}
+use Rattle.node.proofs.Finding.{length-of-mapped, indexOf, NoneBefore, none-at-first, found-nowhere, found-here, not-here}
+use Rattle.node.proofs.NextFrames.{lowest-past-the-end, lowest-step, lowest-passed}
 use Rattle.node.proofs.NextFrames.{short-output, none-pending, frame-has-slot, frame-given}
 use borrow.Author.Needs.{needs}
 use Rattle.node.proofs.Node.next_frame.Statement.{statement}
 use Rattle.node.proofs.Node.next_frame.Tie as tie
 
-returns : tie.Need-returns
+-- `low` is the lowest of what is pending from k on
+abbrev Inv-loop : tie.InvT-loop
+Inv-loop out self low₀ k₀ low k = (k ≤ 32) × (low ≡ lowest (pendingIds (drop k (self .slots))))
+
+abbrev μ-loop : tie.MeasureT-loop
+μ-loop out self low₀ k₀ low k = k
+
+-- no slot before i is the stream's
+abbrev Inv-loop2 : tie.InvT-loop2
+Inv-loop2 out self low k id stream code i₀ i = (i ≤ 32) × NoneBefore (isOf stream) (self .slots) i
+
+abbrev μ-loop2 : tie.MeasureT-loop2
+μ-loop2 out self low k id stream code i₀ i = 32 - i
+
+-- the table has 32 slots
+long : (c : tie.Start Inv-loop μ-loop Inv-loop2 μ-loop2) → length (c .args .t1 .slots) ≡ 32
+long c = search (needs, length-of-mapped)
+
+returns : tie.Need-returns Inv-loop μ-loop Inv-loop2 μ-loop2
 returns c =
     let a = c .before .before .args in
     short-output (now (a .out)) (a .t1) (c .if1 .taken)
 
-lowest-pending-requires : tie.Need-lowest-pending-requires
+-- ── the lowest identifier ──
+loop-holds : tie.Need-loop-holds Inv-loop μ-loop Inv-loop2 μ-loop2
+loop-holds c =
+    let start = c .before .before in
+    (omega arith, lowest-past-the-end (start .args .t1 .slots) 32 (long start))
+
+sub-k : tie.Need-sub-k Inv-loop μ-loop Inv-loop2 μ-loop2
+sub-k c = search needs
+
+mul-s : tie.Need-mul-s Inv-loop μ-loop Inv-loop2 μ-loop2
+mul-s c = search needs
+
+element-copy-out-s : tie.Need-element-copy-out-s Inv-loop μ-loop Inv-loop2 μ-loop2
+element-copy-out-s c = search needs
+
+any-requires : tie.Need-any-requires Inv-loop μ-loop Inv-loop2 μ-loop2
+any-requires c κs = search needs
+
+lowest-pending-requires : tie.Need-lowest-pending-requires Inv-loop μ-loop Inv-loop2 μ-loop2
 lowest-pending-requires c κs = search needs
 
-returns-2 : tie.Need-returns-2
-returns-2 c =
-    let l = c .before .before in
-    let a = l .before .before .before .args in
-    none-pending (now (a .out)) (a .t1) (l .before .if1 .left) _ (l .lowest-pending .ensures) (c .if2 .taken)
+lower-requires : tie.Need-lower-requires Inv-loop μ-loop Inv-loop2 μ-loop2
+lower-requires c κs = search needs
 
-split-requires : tie.Need-split-requires
+loop-less : tie.Need-loop-less Inv-loop μ-loop Inv-loop2 μ-loop2
+loop-less c = search needs
+
+loop-again : tie.Need-loop-again Inv-loop μ-loop Inv-loop2 μ-loop2
+loop-again c =
+    let l = c .before .before .before .before .before .before .before in
+    let start = l .before .before .before in (
+      omega arith,
+      c .lower .ensures
+          ∙ rw (c .before .lowest-pending .ensures, l .loop .inv .1)
+          (sym (lowest-step (start .args .t1 .slots) (l .loop .k) _ (omega arith) (omega (arith, long start)))),
+    )
+
+loop-less-2 : tie.Need-loop-less-2 Inv-loop μ-loop Inv-loop2 μ-loop2
+loop-less-2 c = search needs
+
+loop-again-2 : tie.Need-loop-again-2 Inv-loop μ-loop Inv-loop2 μ-loop2
+loop-again-2 c =
+    let l = c .before .before .before .before .before in
+    let start = l .before .before .before in (
+      omega arith,
+      l .loop .inv .1
+          ∙ lowest-passed (start .args .t1 .slots) (l .loop .k) _ (omega arith) (omega (arith, long start))
+          (sym (c .before .any .ensures) ∙ c .if2 .left),
+    )
+
+is-lowest : (c : tie.After-loop Inv-loop μ-loop Inv-loop2 μ-loop2) → c .before .loop .low ≡ lowest (pendingIds (c .before .before .before .before .args .t1 .slots))
+is-lowest c =
+    let front : c .before .loop .k ≡ 0 = omega arith in
+    rw (c .before .loop .inv .1, front)
+
+returns-2 : tie.Need-returns-2 Inv-loop μ-loop Inv-loop2 μ-loop2
+returns-2 c =
+    let l = c .before in
+    let e = l .before .before in
+    let a = e .before .before .args in
+    none-pending (now (a .out)) (a .t1) (e .if1 .left) _ (is-lowest l) (c .if3 .taken)
+
+split-requires : tie.Need-split-requires Inv-loop μ-loop Inv-loop2 μ-loop2
 split-requires c κs = search needs
 
-find-requires : tie.Need-find-requires
-find-requires c κs = search needs
+-- ── the slot of its stream ──
+loop2-holds : tie.Need-loop2-holds Inv-loop μ-loop Inv-loop2 μ-loop2
+loop2-holds c = (omega arith, none-at-first _ _)
 
--- the table has 32 slots
-long : (c : tie.Start) → length (c .args .t1 .slots) ≡ 32
-long c = search (needs, length-of-mapped)
+mul-s-2 : tie.Need-mul-s-2 Inv-loop μ-loop Inv-loop2 μ-loop2
+mul-s-2 c = search needs
 
--- the stream of the lowest identifier has a slot
-found : (c : tie.After-find) → c .find .result < 32
-found c =
-    let t = c .before .before in
-    let l = t .before .before in
-    let start = l .before .before .before in
-    let a = start .args in
-    rw (← long start)
-    (frame-has-slot (now (a .out)) (a .t1) (l .before .if1 .left) _ (l .lowest-pending .ensures) (t .if2 .left)
-    _ (c .before .split .ensures) _ (c .find .ensures))
+element-copy-out-s-2 : tie.Need-element-copy-out-s-2 Inv-loop μ-loop Inv-loop2 μ-loop2
+element-copy-out-s-2 c = search needs
 
-mul-s : tie.Need-mul-s
-mul-s c = omega (arith, found c)
+is-of-requires : tie.Need-is-of-requires Inv-loop μ-loop Inv-loop2 μ-loop2
+is-of-requires c κs = search needs
 
-element-copy-out-s : tie.Need-element-copy-out-s
-element-copy-out-s c = found c
+add-i : tie.Need-add-i Inv-loop μ-loop Inv-loop2 μ-loop2
+add-i c = search needs
 
-give-payload-requires : tie.Need-give-payload-requires
+loop2-less : tie.Need-loop2-less Inv-loop μ-loop Inv-loop2 μ-loop2
+loop2-less c = search needs
+
+-- the test that past the first loop some frame is pending, seen from the second loop
+abbrev pending-2 : tie.At-loop2 Inv-loop μ-loop Inv-loop2 μ-loop2 → tie.Else3 Inv-loop μ-loop Inv-loop2 μ-loop2
+pending-2 c = c .before .before .before
+
+abbrev start-2 : tie.At-loop2 Inv-loop μ-loop Inv-loop2 μ-loop2 → tie.Start Inv-loop μ-loop Inv-loop2 μ-loop2
+start-2 c = pending-2 c .before .before .before .before .before
+
+loop2-again : tie.Need-loop2-again Inv-loop μ-loop Inv-loop2 μ-loop2
+loop2-again c =
+    let l = c .before .before .before .before in
+    (omega arith, not-here _ _ _ _ (omega (arith, long (start-2 l))) (l .loop2 .inv .1) (sym (c .before .is-of .ensures) ∙ c .if4 .left))
+
+-- the loop ends at the stream's slot
+module _ (c : tie.Left-loop2 Inv-loop μ-loop Inv-loop2 μ-loop2) where
+  abbrev slots : List Slot
+  slots = start-2 (c .before) .args .t1 .slots
+
+  at-index : c .before .loop2 .i ≡ indexOf (isOf (c .before .before .before .split .result .stream)) slots
+  at-index =
+      let none = c .before .loop2 .inv .1 in
+      ⊎-elim
+      (λ w. found-nowhere _ _ _ (omega (arith, long (start-2 (c .before)))) none)
+      (λ w. found-here _ _ _ _ (omega (arith, long (start-2 (c .before)))) none (sym (w .2 .ensures) ∙ w .3 .taken))
+      (c .loop2-test .came)
+
+  inside : c .before .loop2 .i < 32
+  inside =
+      let p = pending-2 (c .before) in
+      let e = p .before .before .before in
+      let a = e .before .before .args in
+      rw (← long (start-2 (c .before)))
+      (frame-has-slot (now (a .out)) (a .t1) (e .if1 .left) _ (is-lowest (p .before)) (p .if3 .left)
+      _ (c .before .before .before .split .ensures) _ at-index)
+
+mul-s-3 : tie.Need-mul-s-3 Inv-loop μ-loop Inv-loop2 μ-loop2
+mul-s-3 c = omega (arith, inside c)
+
+element-copy-out-s-3 : tie.Need-element-copy-out-s-3 Inv-loop μ-loop Inv-loop2 μ-loop2
+element-copy-out-s-3 c = inside c
+
+give-payload-requires : tie.Need-give-payload-requires Inv-loop μ-loop Inv-loop2 μ-loop2
 give-payload-requires c κs = search needs
 
-given-out-requires : tie.Need-given-out-requires
+given-out-requires : tie.Need-given-out-requires Inv-loop μ-loop Inv-loop2 μ-loop2
 given-out-requires c κs = search needs
 
-mul-t : tie.Need-mul-t
-mul-t c = omega (arith, found (c .before .before .before .before .before .before))
+mul-t : tie.Need-mul-t Inv-loop μ-loop Inv-loop2 μ-loop2
+mul-t c = omega (arith, inside (c .before .before .before .before .before .before))
 
-element-set-from-t : tie.Need-element-set-from-t
-element-set-from-t c = found (c .before .before .before .before .before .before)
+element-set-from-t : tie.Need-element-set-from-t Inv-loop μ-loop Inv-loop2 μ-loop2
+element-set-from-t c = inside (c .before .before .before .before .before .before)
 
-same-length : tie.Need-same-length
+same-length : tie.Need-same-length Inv-loop μ-loop Inv-loop2 μ-loop2
 same-length c = search needs
 
-returns-3 : tie.Need-returns-3
+returns-3 : tie.Need-returns-3 Inv-loop μ-loop Inv-loop2 μ-loop2
 returns-3 c =
     let g = c .before .before .before in
     let f = g .before .before .before in
-    let t = f .before .before in
-    let l = t .before .before in
-    let a = l .before .before .before .args in
-    frame-given (now (a .out)) (a .t1) (l .before .if1 .left) _ (l .lowest-pending .ensures) (t .if2 .left)
-    _ (f .before .split .ensures) _ (f .find .ensures) _ _ _ _
+    let p = pending-2 (f .before) in
+    let e = p .before .before .before in
+    let a = e .before .before .args in
+    frame-given (now (a .out)) (a .t1) (e .if1 .left) _ (is-lowest (p .before)) (p .if3 .left)
+    _ (f .before .before .before .split .ensures) _ (at-index f) _ _ _ _
     (c .given-out .ensures) (g .give-payload .ensures .0) (g .give-payload .ensures .1)
 
 pub next-frame-spec : {M : Type 1} → statement M
 next-frame-spec =
     tie.close
     (tie.spec
+    Inv-loop
+    μ-loop
+    Inv-loop2
+    μ-loop2
     returns
-    lowest-pending-requires
-    returns-2
-    split-requires
-    find-requires
+    loop-holds
+    sub-k
     mul-s
     element-copy-out-s
+    any-requires
+    lowest-pending-requires
+    lower-requires
+    loop-less
+    loop-again
+    loop-less-2
+    loop-again-2
+    returns-2
+    split-requires
+    loop2-holds
+    mul-s-2
+    element-copy-out-s-2
+    is-of-requires
+    add-i
+    loop2-less
+    loop2-again
+    mul-s-3
+    element-copy-out-s-3
     give-payload-requires
     given-out-requires
     mul-t

@@ -1,92 +1,142 @@
--- `Node::request` meets its contract: the slot is found by its index, and each return cites the way through the definition.
+-- `Node::request` meets its contract: the loop finds the slot's index, and each return cites the way through the definition.
 use native.Mathlib.Omega.{arith}
 use mathlib.Core.Path.{_≡_, sym, _∙_}
+use mathlib.Core.Logic.{⊎-elim}
+use Prim.Native.Nat.{_-_, _≤_}
 use borrow.Author.Tests.{not-true, not-false}
 use lib.ListN.{length}
 use denote.Ref.{now}
-use Rattle.node.proofs.Finding.{length-of-mapped}
+use Rattle.node.specs.Slots.{isOf}
+use Rattle.node.proofs.Finding.{length-of-mapped, indexOf, NoneBefore, none-at-first, found-nowhere, found-here, not-here}
 use Rattle.node.proofs.Requests.{too-long, no-slot, not-a-sender, busy-sender, request-taken}
 use borrow.Author.Needs.{needs}
 use Rattle.node.proofs.Node.request.Statement.{statement}
 use Rattle.node.proofs.Node.request.Tie as tie
 
+-- no slot before i is the stream's
+abbrev Inv-loop : tie.InvT-loop
+Inv-loop stream payload self i₀ i = (i ≤ 32) × NoneBefore (isOf stream) (self .slots) i
+
+abbrev μ-loop : tie.MeasureT-loop
+μ-loop stream payload self i₀ i = 32 - i
+
 -- the table has 32 slots
-long : (c : tie.Start) → length (c .args .t1 .slots) ≡ 32
+long : (c : tie.Start Inv-loop μ-loop) → length (c .args .t1 .slots) ≡ 32
 long c = search (needs, length-of-mapped)
 
-returns : tie.Need-returns
+returns : tie.Need-returns Inv-loop μ-loop
 returns c =
     let a = c .before .before .args in
     too-long (a .stream) (now (a .payload)) (a .t1) (c .if1 .taken)
 
-find-requires : tie.Need-find-requires
-find-requires c κs = search needs
+loop-holds : tie.Need-loop-holds Inv-loop μ-loop
+loop-holds c = (omega arith, none-at-first _ _)
 
-returns-2 : tie.Need-returns-2
-returns-2 c =
-    let f = c .before in
-    let start = f .before .before .before in
-    let a = start .args in
-    no-slot (a .stream) (now (a .payload)) (a .t1) (f .before .if1 .left) _ (f .find .ensures) (omega (arith, long start))
-
-mul-s : tie.Need-mul-s
+mul-s : tie.Need-mul-s Inv-loop μ-loop
 mul-s c = search needs
 
-element-copy-out-s : tie.Need-element-copy-out-s
+element-copy-out-s : tie.Need-element-copy-out-s Inv-loop μ-loop
 element-copy-out-s c = search needs
 
-is-sender-requires : tie.Need-is-sender-requires
+is-of-requires : tie.Need-is-of-requires Inv-loop μ-loop
+is-of-requires c κs = search needs
+
+add-i : tie.Need-add-i Inv-loop μ-loop
+add-i c = search needs
+
+loop-less : tie.Need-loop-less Inv-loop μ-loop
+loop-less c = search needs
+
+loop-again : tie.Need-loop-again Inv-loop μ-loop
+loop-again c =
+    let l = c .before .before .before .before in
+    let start = l .before .before .before in
+    (omega arith, not-here _ _ _ _ (omega (arith, long start)) (l .loop .inv .1) (sym (c .before .is-of .ensures) ∙ c .if2 .left))
+
+-- the loop ends at the stream's slot
+found : (c : tie.Left-loop Inv-loop μ-loop)
+    → c .before .loop .i ≡ indexOf (isOf (c .before .before .before .before .args .stream)) (c .before .before .before .before .args .t1 .slots)
+found c =
+    let l = c .before in
+    let start = l .before .before .before in
+    ⊎-elim
+    (λ w. found-nowhere _ _ _ (omega (arith, long start)) (l .loop .inv .1))
+    (λ w. found-here _ _ _ _ (omega (arith, long start)) (l .loop .inv .1) (sym (w .2 .ensures) ∙ w .3 .taken))
+    (c .loop-test .came)
+
+returns-2 : tie.Need-returns-2 Inv-loop μ-loop
+returns-2 c =
+    let f = c .before in
+    let start = f .before .before .before .before in
+    let a = start .args in
+    no-slot (a .stream) (now (a .payload)) (a .t1) (f .before .before .if1 .left) _ (found f) (omega (arith, long start))
+
+mul-s-2 : tie.Need-mul-s-2 Inv-loop μ-loop
+mul-s-2 c = search needs
+
+element-copy-out-s-2 : tie.Need-element-copy-out-s-2 Inv-loop μ-loop
+element-copy-out-s-2 c = search needs
+
+is-sender-requires : tie.Need-is-sender-requires Inv-loop μ-loop
 is-sender-requires c κs = search needs
 
-returns-3 : tie.Need-returns-3
+returns-3 : tie.Need-returns-3 Inv-loop μ-loop
 returns-3 c =
     let f = c .before .before .before .before in
-    let start = f .before .before .before in
+    let start = f .before .before .before .before in
     let a = start .args in
-    not-a-sender (a .stream) (now (a .payload)) (a .t1) (f .before .if1 .left) _ (f .find .ensures) _ (omega (arith, long start))
-    (sym (c .before .is-sender .ensures) ∙ not-true _ (c .if3 .taken))
+    not-a-sender (a .stream) (now (a .payload)) (a .t1) (f .before .before .if1 .left) _ (found f) _ (omega (arith, long start))
+    (sym (c .before .is-sender .ensures) ∙ not-true _ (c .if4 .taken))
 
-is-busy-requires : tie.Need-is-busy-requires
+is-busy-requires : tie.Need-is-busy-requires Inv-loop μ-loop
 is-busy-requires c κs = search needs
 
-returns-4 : tie.Need-returns-4
+returns-4 : tie.Need-returns-4 Inv-loop μ-loop
 returns-4 c =
     let f = c .before .before .before .before .before .before in
-    let start = f .before .before .before in
+    let start = f .before .before .before .before in
     let a = start .args in
-    busy-sender (a .stream) (now (a .payload)) (a .t1) (f .before .if1 .left) _ (f .find .ensures) _ (omega (arith, long start))
-    (sym (c .before .before .before .is-sender .ensures) ∙ not-false _ (c .before .before .if3 .left))
-    (sym (c .before .is-busy .ensures) ∙ c .if4 .taken)
+    busy-sender (a .stream) (now (a .payload)) (a .t1) (f .before .before .if1 .left) _ (found f) _ (omega (arith, long start))
+    (sym (c .before .before .before .is-sender .ensures) ∙ not-false _ (c .before .before .if4 .left))
+    (sym (c .before .is-busy .ensures) ∙ c .if5 .taken)
 
-requested-requires : tie.Need-requested-requires
+requested-requires : tie.Need-requested-requires Inv-loop μ-loop
 requested-requires c κs = search needs
 
-mul-t : tie.Need-mul-t
+mul-t : tie.Need-mul-t Inv-loop μ-loop
 mul-t c = search needs
 
-element-set-from-t : tie.Need-element-set-from-t
+element-set-from-t : tie.Need-element-set-from-t Inv-loop μ-loop
 element-set-from-t c = search needs
 
-returns-5 : tie.Need-returns-5
+returns-5 : tie.Need-returns-5 Inv-loop μ-loop
 returns-5 c =
     let t = c .before in
     let f = t .before .before .before .before .before .before in
-    let start = f .before .before .before in
+    let start = f .before .before .before .before in
     let a = start .args in
-    request-taken (a .stream) (now (a .payload)) (a .t1) (f .before .if1 .left) _ (f .find .ensures) _ (omega (arith, long start)) _
-    (sym (t .before .before .before .is-sender .ensures) ∙ not-false _ (t .before .before .if3 .left))
-    (sym (t .before .is-busy .ensures) ∙ t .if4 .left)
+    request-taken (a .stream) (now (a .payload)) (a .t1) (f .before .before .if1 .left) _ (found f) _ (omega (arith, long start)) _
+    (sym (t .before .before .before .is-sender .ensures) ∙ not-false _ (t .before .before .if4 .left))
+    (sym (t .before .is-busy .ensures) ∙ t .if5 .left)
     (c .requested .ensures)
 
 pub request-spec : {M : Type 1} → statement M
 request-spec =
     tie.close
     (tie.spec
+    Inv-loop
+    μ-loop
     returns
-    find-requires
-    returns-2
+    loop-holds
     mul-s
     element-copy-out-s
+    is-of-requires
+    add-i
+    loop-less
+    loop-again
+    returns-2
+    mul-s-2
+    element-copy-out-s-2
     is-sender-requires
     returns-3
     is-busy-requires

@@ -13,7 +13,7 @@ use Rattle.node.specs.declared.slots.Slot.{Slot}
 use Rattle.node.specs.Slots.{nonePending}
 use Rattle.node.specs.Clock.{rolled}
 use Rattle.node.proofs.Finding.{length-of-mapped}
-use Rattle.node.proofs.Stirring.{unheld-is-still}
+use Rattle.node.proofs.Stirring.{unheld-is-still, young-is-still}
 use Rattle.node.proofs.Turns.{Looked, looked-at-first, looked-at-still, looked-at-stirring, looked-at-all, as-many-keys, Delivering}
 use Rattle.node.proofs.Turns.{delivering-at-first, delivering-one-more, delivering-keeps-length, next-counts, next-has-room, written-is-small}
 use Rattle.node.proofs.Turns.{all-delivered, Lapsing, lapsing-at-first, lapsing-one-more, lapsing-one-kept, all-lapsed}
@@ -75,6 +75,15 @@ element-copy-out-slot c = search needs
 age-requires : tie.Need-age-requires Inv-loop μ-loop Inv-loop2 μ-loop2 Inv-loop3 μ-loop3
 age-requires c κs = search needs
 
+may-stir-requires : tie.Need-may-stir-requires Inv-loop μ-loop Inv-loop2 μ-loop2 Inv-loop3 μ-loop3
+may-stir-requires c κs = search needs
+
+mul-old : tie.Need-mul-old Inv-loop μ-loop Inv-loop2 μ-loop2 Inv-loop3 μ-loop3
+mul-old c = search needs
+
+element-copy-out-old : tie.Need-element-copy-out-old Inv-loop μ-loop Inv-loop2 μ-loop2 Inv-loop3 μ-loop3
+element-copy-out-old c = search needs
+
 stirs-requires : tie.Need-stirs-requires Inv-loop μ-loop Inv-loop2 μ-loop2 Inv-loop3 μ-loop3
 stirs-requires c κs = search needs
 
@@ -92,25 +101,27 @@ loop-less c = search needs
 
 loop-again : tie.Need-loop-again Inv-loop μ-loop Inv-loop2 μ-loop2 Inv-loop3 μ-loop3
 loop-again c =
-    let l = c .before .before .before .before .before .before .before .before .loop .inv in
+    let a = c .before .before .before .before .before .before in
     let stirs = sym (c .before .before .stirs .ensures) ∙ c .before .if3 .taken in
-    looked-at-stirring rolled _ l _ _ (omega arith) _ (c .before .before .before .age .ensures) stirs _ (c .key .ensures)
+    looked-at-stirring rolled _ (a .before .before .before .loop .inv) _ _ (omega arith) _ (a .age .ensures) stirs _ (c .key .ensures)
 
 loop-less-2 : tie.Need-loop-less-2 Inv-loop μ-loop Inv-loop2 μ-loop2 Inv-loop3 μ-loop3
 loop-less-2 c = search needs
 
 loop-again-2 : tie.Need-loop-again-2 Inv-loop μ-loop Inv-loop2 μ-loop2 Inv-loop3 μ-loop3
 loop-again-2 c =
-    let l = c .before .before .before .before .before .before .before .loop .inv in
+    let a = c .before .before .before .before .before in
     let still = sym (c .before .stirs .ensures) ∙ c .if3 .left in
-    looked-at-still rolled _ l _ _ (omega arith) _ (c .before .before .age .ensures) still
+    looked-at-still rolled _ (a .before .before .before .loop .inv) _ _ (omega arith) _ (a .age .ensures) still
 
 loop-less-3 : tie.Need-loop-less-3 Inv-loop μ-loop Inv-loop2 μ-loop2 Inv-loop3 μ-loop3
 loop-less-3 c = search needs
 
 loop-again-3 : tie.Need-loop-again-3 Inv-loop μ-loop Inv-loop2 μ-loop2 Inv-loop3 μ-loop3
 loop-again-3 c =
-    looked-at-still rolled _ (c .before .before .before .before .loop .inv) _ _ (omega arith) _ refl (unheld-is-still _ _ (c .if2 .left))
+    let a = c .before .before in
+    let still = young-is-still _ _ (sym (c .before .may-stir .ensures) ∙ c .if2 .left) in
+    looked-at-still rolled _ (a .before .before .before .loop .inv) _ _ (omega arith) _ (a .age .ensures) still
 
 -- ── nothing stirs ──
 returns-2 : tie.Need-returns-2 Inv-loop μ-loop Inv-loop2 μ-loop2 Inv-loop3 μ-loop3
@@ -204,8 +215,8 @@ stirs-requires-2 c κs = search needs
 lapsed-requires : tie.Need-lapsed-requires Inv-loop μ-loop Inv-loop2 μ-loop2 Inv-loop3 μ-loop3
 lapsed-requires c κs = search needs
 
-mul-t57 : tie.Need-mul-t57 Inv-loop μ-loop Inv-loop2 μ-loop2 Inv-loop3 μ-loop3
-mul-t57 c = search needs
+mul-t62 : tie.Need-mul-t62 Inv-loop μ-loop Inv-loop2 μ-loop2 Inv-loop3 μ-loop3
+mul-t62 c = search needs
 
 element-set-from-self : tie.Need-element-set-from-self Inv-loop μ-loop Inv-loop2 μ-loop2 Inv-loop3 μ-loop3
 element-set-from-self c = search needs
@@ -262,6 +273,9 @@ tick-spec =
     mul-slot
     element-copy-out-slot
     age-requires
+    may-stir-requires
+    mul-old
+    element-copy-out-old
     stirs-requires
     key-requires
     mul-keys
@@ -295,7 +309,7 @@ tick-spec =
     age-requires-2
     stirs-requires-2
     lapsed-requires
-    mul-t57
+    mul-t62
     element-set-from-self
     loop3-less
     loop3-again

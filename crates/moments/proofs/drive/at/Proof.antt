@@ -1,0 +1,45 @@
+-- `moments::drive::at` is safe and ends: the measure is the turns that are left. Assumes nothing.
+use borrow.Author.Needs.{needs}
+use Rattle.moments.proofs.drive.at.Statement.{statement}
+use Rattle.moments.proofs.drive.at.Tie as tie
+
+abbrev Inv-loop : tie.InvT-loop
+Inv-loop counter now₀ turns₀ now turns = Unit {0}
+
+abbrev μ-loop : tie.MeasureT-loop
+μ-loop counter now₀ turns₀ now turns = turns
+
+loop-holds : tie.Need-loop-holds Inv-loop μ-loop
+loop-holds c = search needs
+
+sub-turns : tie.Need-sub-turns Inv-loop μ-loop
+sub-turns c = search needs
+
+returns : tie.Need-returns Inv-loop μ-loop
+returns c = search needs
+
+tick-requires : tie.Need-tick-requires Inv-loop μ-loop
+tick-requires c κs = search needs
+
+loop-less : tie.Need-loop-less Inv-loop μ-loop
+loop-less c = search needs
+
+loop-again : tie.Need-loop-again Inv-loop μ-loop
+loop-again c = search needs
+
+returns-2 : tie.Need-returns-2 Inv-loop μ-loop
+returns-2 c = search needs
+
+pub at-spec : {M : Type 1} → statement M
+at-spec =
+    tie.close
+    (tie.spec
+    Inv-loop
+    μ-loop
+    loop-holds
+    sub-turns
+    returns
+    tick-requires
+    loop-less
+    loop-again
+    returns-2)
