@@ -135,6 +135,6 @@ module _ (b : Bench) (eight : length (b .modules) ≡ 8) (who : ℕ) (fs : Frame
     unfolding givingOf
     gives-out e room out out-is m m-is fs′ fs′-is =
         let out-is′ : out ≡ over (callIn next who b .bytes) (replicate maxPayload 0) =
-            out-is ∙ ap (λ (m : Module). over (outcome rolled next (m .node) .bytes) (replicate maxPayload 0)) (read-is b eight who inside d) in
+        out-is ∙ ap (λ (m : Module). over (outcome rolled next (m .node) .bytes) (replicate maxPayload 0)) (read-is b eight who inside d) in
         let bench = stored b eight who inside d (withNode (a .node)) m m-is in
         rw (live, is-done true e, lt-leb capacity (fs .count) room, fs′-is, bench, by-outcome, out-is′)

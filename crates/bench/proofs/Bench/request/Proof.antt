@@ -42,7 +42,7 @@ element-set-from-self : tie.Need-element-set-from-self
 element-set-from-self c = search needs
 
 returns-3 : tie.Need-returns-3
-returns-3 c = 
+returns-3 c =
     let s = c .before .before .before .before .before .before .before .before in
     let live = sym (read-live (s .args .t1) (eight s) _ (omega arith) _) ∙ not-false _ (c .before .before .before .if2 .left) in
     answers-there (s .args .t1) (eight s) _ (omega arith) _ _ live (request (s .args .stream) (now (s .args .payload))) _

@@ -48,8 +48,8 @@ returns-2 c =
     let all = c .before .before .before .before .before .before .before .before .all-bytes in
     let none-off : n - 0 ≡ n = omega arith in
     let p =
-        ap (λ (k : ℕ). take k (all .result)) none-off ∙ ap (take n) (all .ensures .0)
-        ∙ as-many-bytes (s .args .frame) n length-is in
+    ap (λ (k : ℕ). take k (all .result)) none-off ∙ ap (take n) (all .ensures .0)
+    ∙ as-many-bytes (s .args .frame) n length-is in
     let reaches = not-false _ (c .before .before .before .before .before .before .before .before .before .if1 .left) in
     reached (s .args .named) (s .args .own) (s .args .frame) (s .args .self) reaches _ _ _ _
     (length-is ∙ ap length (sym p)) p (h .0) (h .1) _ (c .with-node .ensures)

@@ -18,7 +18,7 @@ with-node-requires : tie.Need-with-node-requires
 with-node-requires c κs = search needs
 
 returns-2 : tie.Need-returns-2
-returns-2 c = 
+returns-2 c =
     let t = c .before .before .tick .ensures .0 in
     live-at-tick _ (not-false _ (c .before .before .before .before .before .if1 .left)) _ _ (t .0) (t .1) _ (c .with-node .ensures)
 

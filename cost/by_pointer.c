@@ -1,0 +1,85 @@
+/* The five calls on a node that is changed where it stands. */
+#include "slot.h"
+
+struct answered set_up(struct node *node, uint32_t stream, struct settings settings)
+{
+    size_t i;
+
+    if (!legal(stream, &settings)) {
+        return (struct answered){BAD_SETTINGS};
+    }
+    if (find(node, stream) < SLOTS) {
+        return (struct answered){TAKEN};
+    }
+    i = find_free(node);
+    if (i == SLOTS) {
+        return (struct answered){TABLE_FULL};
+    }
+    node->slots[i] = (struct slot){.stream = stream, .settings = settings, .used = true};
+    return (struct answered){DONE};
+}
+
+struct delivered hear(struct node *node, uint32_t id, uint8_t dlc, const uint8_t *payload, size_t len, uint8_t *out,
+                      size_t room)
+{
+    uint32_t stream = id / 4;
+    uint32_t code = id % 4;
+    struct slot *slot;
+    size_t i;
+
+    if (room < 16) {
+        return (struct delivered){SHORT_OUTPUT, 0};
+    }
+    if (bad_frame(id, dlc, len)) {
+        return (struct delivered){BAD_FRAME, 0};
+    }
+    i = find(node, stream);
+    if (i == SLOTS || node->slots[i].settings.role != RECEIVE) {
+        return (struct delivered){NOT_MINE, 0};
+    }
+    slot = &node->slots[i];
+    if (!carries[slot->settings.class_][code]) {
+        return (struct delivered){MISFIT, 0};
+    }
+    if (code == CODE_PLAIN) {
+        return (struct delivered){DONE, write_record(out, stream, payload, len)};
+    }
+    return (struct delivered){hear_by(slot, node->counter, code, payload, len), 0};
+}
+
+struct delivered tick(struct node *node, uint8_t *out, size_t room)
+{
+    if (room < 512) {
+        return (struct delivered){SHORT_OUTPUT, 0};
+    }
+    return (struct delivered){DONE, tick_all(node, out)};
+}
+
+struct answered request(struct node *node, uint32_t stream, const uint8_t *payload, size_t len)
+{
+    size_t i;
+
+    if (len > 8) {
+        return (struct answered){BAD_LENGTH};
+    }
+    i = find(node, stream);
+    if (i == SLOTS) {
+        return (struct answered){NOT_SENDER};
+    }
+    return (struct answered){request_by(&node->slots[i], node->counter, payload, len)};
+}
+
+struct given next_frame(struct node *node, uint8_t *out, size_t room)
+{
+    uint32_t id = 0;
+    size_t i;
+
+    if (room < 8) {
+        return (struct given){SHORT_OUTPUT, 0, 0};
+    }
+    i = lowest(node, &id);
+    if (i == SLOTS) {
+        return (struct given){NOTHING, 0, 0};
+    }
+    return (struct given){DONE, id, give_out(&node->slots[i], id % 4, out)};
+}

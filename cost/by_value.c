@@ -1,0 +1,94 @@
+/* The five calls on a node that goes in by value and comes back by value. */
+#include "slot.h"
+
+struct answered set_up(struct node node, uint32_t stream, struct settings settings)
+{
+    size_t i;
+
+    if (!legal(stream, &settings)) {
+        return (struct answered){node, BAD_SETTINGS};
+    }
+    if (find(&node, stream) < SLOTS) {
+        return (struct answered){node, TAKEN};
+    }
+    i = find_free(&node);
+    if (i == SLOTS) {
+        return (struct answered){node, TABLE_FULL};
+    }
+    node.slots[i] = (struct slot){.stream = stream, .settings = settings, .used = true};
+    return (struct answered){node, DONE};
+}
+
+struct delivered hear(struct node node, uint32_t id, uint8_t dlc, const uint8_t *payload, size_t len, uint8_t *out,
+                      size_t room)
+{
+    uint32_t stream = id / 4;
+    uint32_t code = id % 4;
+    struct slot *slot;
+    enum reply reply;
+    size_t i;
+
+    if (room < 16) {
+        return (struct delivered){node, SHORT_OUTPUT, 0};
+    }
+    if (bad_frame(id, dlc, len)) {
+        return (struct delivered){node, BAD_FRAME, 0};
+    }
+    i = find(&node, stream);
+    if (i == SLOTS || node.slots[i].settings.role != RECEIVE) {
+        return (struct delivered){node, NOT_MINE, 0};
+    }
+    slot = &node.slots[i];
+    if (!carries[slot->settings.class_][code]) {
+        return (struct delivered){node, MISFIT, 0};
+    }
+    if (code == CODE_PLAIN) {
+        return (struct delivered){node, DONE, write_record(out, stream, payload, len)};
+    }
+    reply = hear_by(slot, node.counter, code, payload, len);
+    return (struct delivered){node, reply, 0};
+}
+
+struct delivered tick(struct node node, uint8_t *out, size_t room)
+{
+    size_t written;
+
+    if (room < 512) {
+        return (struct delivered){node, SHORT_OUTPUT, 0};
+    }
+    written = tick_all(&node, out);
+    return (struct delivered){node, DONE, written};
+}
+
+struct answered request(struct node node, uint32_t stream, const uint8_t *payload, size_t len)
+{
+    enum reply reply;
+    size_t i;
+
+    if (len > 8) {
+        return (struct answered){node, BAD_LENGTH};
+    }
+    i = find(&node, stream);
+    if (i == SLOTS) {
+        return (struct answered){node, NOT_SENDER};
+    }
+    reply = request_by(&node.slots[i], node.counter, payload, len);
+    return (struct answered){node, reply};
+}
+
+struct given next_frame(struct node node, uint8_t *out, size_t room)
+{
+    uint32_t id = 0;
+    size_t len;
+    size_t i;
+
+    if (room < 8) {
+        return (struct given){node, SHORT_OUTPUT, 0, 0};
+    }
+    i = lowest(&node, &id);
+    if (i == SLOTS) {
+        return (struct given){node, NOTHING, 0, 0};
+    }
+    len = give_out(&node.slots[i], id % 4, out);
+    return (struct given){node, DONE, id, len};
+}

@@ -1,0 +1,124 @@
+/* The node in plain C, as it would be written by hand for one module: the types, with the fields of the proved node in
+ * the same order, and the five calls. With BY_VALUE each call takes the whole node and gives the whole node back, as the
+ * proved one does; without it the node is changed where it stands. */
+#ifndef NODE_H
+#define NODE_H
+
+#include <stdbool.h>
+#include <stddef.h>
+#include <stdint.h>
+
+#define SLOTS 32
+#define MAX_STREAM UINT32_C(134217727)
+#define MAX_BUS_ID UINT32_C(536870911)
+
+enum reply {
+    DONE,
+    BAD_SETTINGS,
+    TABLE_FULL,
+    TAKEN,
+    BAD_FRAME,
+    NOT_MINE,
+    MISFIT,
+    CLASH,
+    BUSY,
+    NOT_SENDER,
+    BAD_LENGTH,
+    SHORT_OUTPUT,
+    NOTHING
+};
+
+enum { RECEIVE, SEND };
+enum { PLAIN, IMD, TWO_MESSAGE };
+enum { CODE_DATA, CODE_CONFIRMATION, CODE_ABORT, CODE_PLAIN };
+
+struct settings {
+    uint16_t rd;
+    uint16_t dc;
+    uint16_t ra;
+    uint16_t dd;
+    uint8_t role;
+    uint8_t class_;
+};
+
+struct message {
+    uint16_t stamp;
+    uint8_t len;
+    bool held;
+    bool confirmed;
+    uint8_t bytes[8];
+};
+
+struct pending {
+    bool payload;
+    bool confirmation;
+    bool abort;
+};
+
+struct slot {
+    uint32_t stream;
+    struct settings settings;
+    struct message message;
+    struct pending pending;
+    bool used;
+};
+
+struct node {
+    struct slot slots[SLOTS];
+    uint16_t counter;
+};
+
+#ifdef BY_VALUE
+
+struct answered {
+    struct node node;
+    enum reply reply;
+};
+
+struct delivered {
+    struct node node;
+    enum reply reply;
+    size_t written;
+};
+
+struct given {
+    struct node node;
+    enum reply reply;
+    uint32_t id;
+    size_t len;
+};
+
+struct answered set_up(struct node node, uint32_t stream, struct settings settings);
+struct delivered hear(struct node node, uint32_t id, uint8_t dlc, const uint8_t *payload, size_t len, uint8_t *out,
+                      size_t room);
+struct delivered tick(struct node node, uint8_t *out, size_t room);
+struct answered request(struct node node, uint32_t stream, const uint8_t *payload, size_t len);
+struct given next_frame(struct node node, uint8_t *out, size_t room);
+
+#else
+
+struct answered {
+    enum reply reply;
+};
+
+struct delivered {
+    enum reply reply;
+    size_t written;
+};
+
+struct given {
+    enum reply reply;
+    uint32_t id;
+    size_t len;
+};
+
+struct answered set_up(struct node *node, uint32_t stream, struct settings settings);
+struct delivered hear(struct node *node, uint32_t id, uint8_t dlc, const uint8_t *payload, size_t len, uint8_t *out,
+                      size_t room);
+struct delivered tick(struct node *node, uint8_t *out, size_t room);
+struct answered request(struct node *node, uint32_t stream, const uint8_t *payload, size_t len);
+struct given next_frame(struct node *node, uint8_t *out, size_t room);
+
+#endif
+
+#endif

@@ -1,0 +1,389 @@
+/* The workloads of crates/cost over the node in C: from each line `WORKLOAD ROUNDS CALLS` of standard input one
+ * checksum. A round takes the generator's next number, makes of it what is asked, and asks it of the node; only the
+ * first CALLS of the rounds call the node. The line `size 0 0` is answered by the node's size in bytes. */
+#include <stdio.h>
+#include <string.h>
+
+#include "node.h"
+
+enum call { CALL_HEAR, CALL_TICK, CALL_REQUEST, CALL_NEXT_FRAME, CALL_SET_UP, ANY_CALL };
+enum streams { MIXED, RECEIVED, SENT };
+
+struct asked {
+    uint32_t number;
+    uint8_t dlc;
+    size_t len;
+    uint8_t first;
+    size_t room;
+    struct settings settings;
+};
+
+/* LENT is the node as a call takes it, and BACK puts the node that the call gave back in its place. */
+#ifdef BY_VALUE
+#define LENT(node) (node)
+#define BACK(node, answer) ((node) = (answer).node)
+#else
+#define LENT(node) (&(node))
+#define BACK(node, answer) ((void)(answer))
+#endif
+
+static uint32_t next(uint32_t random)
+{
+    return random * 1664525 + 1013904223;
+}
+
+static uint32_t mixed(uint32_t sum, uint32_t x)
+{
+    return sum * 31 + x;
+}
+
+static uint32_t stream_of(uint32_t k)
+{
+    return (k % 64 * 13 + 7) % 64 * 4099 + 5;
+}
+
+static struct settings settings_of(uint8_t role, uint32_t class_)
+{
+    switch (class_) {
+    case PLAIN:
+        return (struct settings){0, 0, 0, 0, role, PLAIN};
+    case IMD:
+        return (struct settings){50, 0, 0, 100, role, IMD};
+    default:
+        return (struct settings){50, 80, 10, 100, role, TWO_MESSAGE};
+    }
+}
+
+static uint8_t role_of(uint32_t k)
+{
+    return k % 8 == 7 ? SEND : RECEIVE;
+}
+
+static uint32_t code_of(uint32_t class_, bool any, uint32_t w)
+{
+    if (any) {
+        return w % 4;
+    }
+    if (class_ == PLAIN) {
+        return CODE_PLAIN;
+    }
+    if (class_ == IMD || w < 4) {
+        return CODE_DATA;
+    }
+    return w < 7 ? CODE_CONFIRMATION : CODE_ABORT;
+}
+
+static uint8_t length_of(uint32_t k, uint32_t code, bool shorter)
+{
+    uint8_t len = (uint8_t)(k % 9);
+
+    if (code == CODE_CONFIRMATION || code == CODE_ABORT || len == 0) {
+        return 0;
+    }
+    return shorter ? len - 1 : len;
+}
+
+static struct asked frame(uint32_t random)
+{
+    uint32_t h = random / 65536;
+    uint32_t k = h % 32;
+    uint32_t kind = h / 32 % 16;
+    uint32_t other = h / 4096 % 8;
+    uint32_t code = code_of(k % 3, kind == 3, h / 512 % 8);
+    uint8_t len = length_of(k, code, other == 6);
+    uint8_t dlc = (uint8_t)(len + (kind == 1));
+
+    return (struct asked){
+        .number = (stream_of(k) + (kind == 2)) * 4 + code,
+        .dlc = dlc,
+        .len = dlc == 9 ? 9 : len,
+        .first = (uint8_t)(other / 7),
+        .room = kind == 0 ? 15 : 512,
+    };
+}
+
+static struct asked message(uint32_t random)
+{
+    uint32_t h = random / 65536;
+    uint32_t k = h % 32;
+    uint32_t kind = h / 32 % 8;
+
+    return (struct asked){
+        .number = stream_of(k) + (kind == 0),
+        .len = kind == 1 ? 9 : length_of(k, CODE_DATA, false),
+        .first = (uint8_t)h,
+    };
+}
+
+static struct asked stream(uint64_t i, uint32_t random)
+{
+    uint32_t kind = random / 65536 % 16;
+    uint32_t k = kind == 1 ? 0 : (uint32_t)(i % 40);
+
+    return (struct asked){.number = stream_of(k), .settings = settings_of(kind == 0 ? 2 : role_of(k), k % 3)};
+}
+
+static const uint8_t fixed[9] = {0, 1, 2, 3, 4, 5, 6, 7, 8};
+
+static struct node streams(enum streams which)
+{
+    struct node node = {0};
+
+    for (uint32_t k = 0; k < 32; k++) {
+        struct settings s = which == MIXED      ? settings_of(role_of(k), k % 3)
+                            : which == RECEIVED ? settings_of(RECEIVE, 1 + k % 2)
+                                                : settings_of(SEND, k % 3);
+        struct answered a = set_up(LENT(node), stream_of(k), s);
+
+        BACK(node, a);
+    }
+    return node;
+}
+
+static struct node ticked(struct node node)
+{
+    uint8_t out[512];
+    struct delivered a = tick(LENT(node), out, sizeof out);
+
+    BACK(node, a);
+    return node;
+}
+
+/* The node once it heard data and a confirmation of stream k. */
+static struct node heard(struct node node, uint32_t k)
+{
+    uint8_t out[16];
+    struct delivered a = hear(LENT(node), stream_of(k) * 4, 8, fixed, 8, out, sizeof out);
+
+    BACK(node, a);
+    a = hear(LENT(node), stream_of(k) * 4 + 1, 0, fixed, 0, out, sizeof out);
+    BACK(node, a);
+    return node;
+}
+
+/* A confirmed message on so many of every four streams; where `apart` is true, a tick follows each. */
+static struct node held(uint32_t of_four, bool apart, uint32_t ticks)
+{
+    struct node node = streams(RECEIVED);
+
+    for (uint32_t k = 0; k < 32; k++) {
+        if (k % 4 < of_four) {
+            node = heard(node, k);
+        }
+        if (apart) {
+            node = ticked(node);
+        }
+    }
+    for (uint32_t i = 0; i < ticks; i++) {
+        node = ticked(node);
+    }
+    return node;
+}
+
+static struct node requested(uint32_t k)
+{
+    struct node node = streams(SENT);
+    struct answered a = request(LENT(node), stream_of(k), fixed, 8);
+
+    BACK(node, a);
+    return node;
+}
+
+enum { HEAR, TICK_IDLE, TICK_ONE, TICK_MANY, REQUEST, NEXT_ONE, NEXT_NONE, SET_UP, MIXED_CALLS, WORKS };
+
+/* The period is after how many rounds the workload starts from its first node again. */
+static const struct work {
+    const char *name;
+    enum call call;
+    uint64_t period;
+} works[WORKS] = {
+    [HEAR] = {"hear", CALL_HEAR, 256},
+    [TICK_IDLE] = {"tick-idle", CALL_TICK, 64},
+    [TICK_ONE] = {"tick-one", CALL_TICK, 32},
+    [TICK_MANY] = {"tick-many", CALL_TICK, 1},
+    [REQUEST] = {"request", CALL_REQUEST, 32},
+    [NEXT_ONE] = {"next-one", CALL_NEXT_FRAME, 1},
+    [NEXT_NONE] = {"next-none", CALL_NEXT_FRAME, 256},
+    [SET_UP] = {"set-up", CALL_SET_UP, 40},
+    [MIXED_CALLS] = {"mixed", ANY_CALL, 65536},
+};
+
+static struct node start_of(size_t work)
+{
+    switch (work) {
+    case HEAR:
+    case MIXED_CALLS:
+        return streams(MIXED);
+    case TICK_IDLE:
+        return held(2, false, 0);
+    case TICK_ONE:
+        return held(4, true, 68);
+    case TICK_MANY:
+        return held(4, false, 100);
+    case NEXT_ONE:
+        return requested(19);
+    case SET_UP:
+        return (struct node){0};
+    default:
+        return streams(SENT);
+    }
+}
+
+/* Eight ticks, four hears, two next frames, a request and a set up. */
+static enum call any_call(uint32_t x)
+{
+    if (x < 8) {
+        return CALL_TICK;
+    }
+    if (x < 12) {
+        return CALL_HEAR;
+    }
+    if (x < 14) {
+        return CALL_NEXT_FRAME;
+    }
+    return x == 14 ? CALL_REQUEST : CALL_SET_UP;
+}
+
+static struct asked asked_of(enum call call, uint64_t i, uint32_t random)
+{
+    switch (call) {
+    case CALL_HEAR:
+        return frame(random);
+    case CALL_REQUEST:
+        return message(random);
+    case CALL_SET_UP:
+        return stream(i, random);
+    default:
+        return (struct asked){.room = 512};
+    }
+}
+
+/* The checksum with what the node does at a next frame and a tick. */
+static uint32_t ended(struct node node, uint32_t sum)
+{
+    uint8_t out[512] = {0};
+    struct given given = next_frame(LENT(node), out, sizeof out);
+    struct delivered delivered;
+
+    BACK(node, given);
+    delivered = tick(LENT(node), out, sizeof out);
+    BACK(node, delivered);
+    sum = mixed(sum, given.id);
+    sum = mixed(sum, node.counter);
+    for (size_t i = 0; i < sizeof out; i++) {
+        sum = mixed(sum, out[i]);
+    }
+    return sum;
+}
+
+static uint32_t run(size_t work, uint64_t rounds, uint64_t calls)
+{
+    uint64_t period = works[work].period;
+    struct node start = start_of(work);
+    struct node node = start;
+    uint32_t random = 1;
+    uint32_t sum = 0;
+
+    for (uint64_t i = 0; i < rounds; i++) {
+        enum reply reply = DONE;
+        uint32_t id = 0;
+        size_t count = 0;
+        enum call call = works[work].call;
+        uint8_t out[512] = {0};
+        uint8_t payload[9];
+        struct asked asked;
+
+        if (i % period == 0) {
+            node = start;
+        }
+        random = next(random);
+        if (call == ANY_CALL) {
+            call = any_call(random / 4096 % 16);
+        }
+        asked = asked_of(call, i, random);
+        memcpy(payload, fixed, sizeof payload);
+        payload[0] = asked.first;
+        if (i < calls) {
+            switch (call) {
+            case CALL_HEAR: {
+                struct delivered a = hear(LENT(node), asked.number, asked.dlc, payload, asked.len, out, asked.room);
+
+                BACK(node, a);
+                reply = a.reply;
+                count = a.written;
+                break;
+            }
+            case CALL_TICK: {
+                struct delivered a = tick(LENT(node), out, asked.room);
+
+                BACK(node, a);
+                reply = a.reply;
+                count = a.written;
+                break;
+            }
+            case CALL_REQUEST: {
+                struct answered a = request(LENT(node), asked.number, payload, asked.len);
+
+                BACK(node, a);
+                reply = a.reply;
+                break;
+            }
+            case CALL_NEXT_FRAME: {
+                struct given a = next_frame(LENT(node), out, asked.room);
+
+                BACK(node, a);
+                reply = a.reply;
+                id = a.id;
+                count = a.len;
+                break;
+            }
+            case CALL_SET_UP: {
+                struct answered a = set_up(LENT(node), asked.number, asked.settings);
+
+                BACK(node, a);
+                reply = a.reply;
+                break;
+            }
+            case ANY_CALL:
+                break;
+            }
+        }
+        sum = mixed(sum, reply);
+        sum = mixed(sum, id);
+        sum = mixed(sum, (uint32_t)count);
+        sum = mixed(sum, out[random / 65536 % 16]);
+        sum = mixed(sum, out[random / 65536 % 512]);
+    }
+    return ended(node, sum);
+}
+
+static void answer(const char *line)
+{
+    char name[16];
+    unsigned long rounds;
+    unsigned long calls;
+
+    if (sscanf(line, "%15s %lu %lu", name, &rounds, &calls) == 3) {
+        if (strcmp(name, "size") == 0) {
+            printf("%lu\n", (unsigned long)sizeof(struct node));
+            return;
+        }
+        for (size_t work = 0; work < WORKS; work++) {
+            if (strcmp(name, works[work].name) == 0) {
+                printf("%lu\n", (unsigned long)run(work, rounds, calls));
+                return;
+            }
+        }
+    }
+    puts("?");
+}
+
+int main(void)
+{
+    char line[80];
+
+    while (fgets(line, sizeof line, stdin) != NULL) {
+        answer(line);
+    }
+    return 0;
+}

@@ -1,0 +1,229 @@
+// The workloads. A round takes the generator's next number, makes of it what is asked, and asks it of the
+// node; the checksum takes in the reply, the values and two bytes of the output. Only the first `calls` of
+// the rounds call the node, so that the cost of the rounds without their calls can be told.
+use crate::asking;
+use crate::asking::Asked;
+use crate::numbers;
+use crate::starting;
+use crate::starting::Streams;
+use node::Node;
+use text::words;
+use wire::ids::BusId;
+use wire::ids::Stream;
+ghost use Prim.Native.Nat.{_≤_};
+
+pub enum Work {
+    Hear,
+    TickIdle,
+    TickOne,
+    TickMany,
+    Request,
+    NextOne,
+    NextNone,
+    SetUp,
+    Mixed,
+}
+
+enum Call {
+    Hear,
+    Tick,
+    Request,
+    NextFrame,
+    SetUp,
+}
+
+pub enum Named {
+    Is(Work),
+    Unknown,
+}
+
+pub fn work_named(word: &[u8]) -> Named {
+    if words::is(word, b"hear") {
+        return Named::Is(Work::Hear);
+    }
+    if words::is(word, b"tick-idle") {
+        return Named::Is(Work::TickIdle);
+    }
+    if words::is(word, b"tick-one") {
+        return Named::Is(Work::TickOne);
+    }
+    if words::is(word, b"tick-many") {
+        return Named::Is(Work::TickMany);
+    }
+    if words::is(word, b"request") {
+        return Named::Is(Work::Request);
+    }
+    if words::is(word, b"next-one") {
+        return Named::Is(Work::NextOne);
+    }
+    if words::is(word, b"next-none") {
+        return Named::Is(Work::NextNone);
+    }
+    if words::is(word, b"set-up") {
+        return Named::Is(Work::SetUp);
+    }
+    if words::is(word, b"mixed") {
+        return Named::Is(Work::Mixed);
+    }
+    Named::Unknown
+}
+
+fn call_of(work: Work, random: u32) -> Call {
+    match work {
+        Work::Hear => Call::Hear,
+        Work::TickIdle => Call::Tick,
+        Work::TickOne => Call::Tick,
+        Work::TickMany => Call::Tick,
+        Work::Request => Call::Request,
+        Work::NextOne => Call::NextFrame,
+        Work::NextNone => Call::NextFrame,
+        Work::SetUp => Call::SetUp,
+        Work::Mixed => any_call(random / 4096 % 16),
+    }
+}
+
+// Eight ticks, four hears, two next frames, a request and a set up.
+fn any_call(x: u32) -> Call {
+    match x {
+        0..=7 => Call::Tick,
+        8..=11 => Call::Hear,
+        12 | 13 => Call::NextFrame,
+        14 => Call::Request,
+        _ => Call::SetUp,
+    }
+}
+
+// After how many rounds the workload starts from its first node again.
+fn period_of(work: Work) -> u64
+    ensures { λ r. ⌜ 1 ≤ r ⌝ }
+{
+    match work {
+        Work::Hear => 256,
+        Work::TickIdle => 64,
+        Work::TickOne => 32,
+        Work::TickMany => 1,
+        Work::Request => 32,
+        Work::NextOne => 1,
+        Work::NextNone => 256,
+        Work::SetUp => 40,
+        Work::Mixed => 65536,
+    }
+}
+
+fn start_of(work: Work) -> Node {
+    match work {
+        Work::Hear => starting::set_up(Streams::Mixed),
+        Work::TickIdle => starting::held(starting::set_up(Streams::Received), 2, false),
+        // Every tick from here on has one message due, and after 32 ticks none is left.
+        Work::TickOne => starting::later(
+            starting::held(starting::set_up(Streams::Received), 4, true),
+            68,
+        ),
+        // The next tick has 32 messages due.
+        Work::TickMany => starting::later(
+            starting::held(starting::set_up(Streams::Received), 4, false),
+            100,
+        ),
+        Work::Request => starting::set_up(Streams::Sent),
+        Work::NextOne => starting::requested(starting::set_up(Streams::Sent), 19),
+        Work::NextNone => starting::set_up(Streams::Sent),
+        Work::SetUp => Node::fresh(),
+        Work::Mixed => starting::set_up(Streams::Mixed),
+    }
+}
+
+fn asked_of(call: Call, i: u64, random: u32) -> Asked {
+    match call {
+        Call::Hear => asking::frame(random),
+        Call::Tick => asking::nothing(),
+        Call::Request => asking::message(random),
+        Call::NextFrame => asking::nothing(),
+        Call::SetUp => asking::stream(i, random),
+    }
+}
+
+// The checksum after so many rounds.
+pub fn run(work: Work, rounds: u64, calls: u64) -> u32 {
+    let period = period_of(work);
+    let start = start_of(work);
+    let mut node = start;
+    let mut random: u32 = 1;
+    let mut sum: u32 = 0;
+    let mut i: u64 = 0;
+    while i < rounds {
+        if i % period == 0 {
+            node = start;
+        }
+        random = numbers::next(random);
+        let call = call_of(work, random);
+        let asked = asked_of(call, i, random);
+        let mut out = [0u8; 512];
+        let payload = asking::payload_of(asked.first);
+        let len = numbers::least(asked.len, 9);
+        let room = numbers::least(asked.room, 512);
+        let mut reply: u32 = 0;
+        let mut id: u32 = 0;
+        let mut count: usize = 0;
+        if i < calls {
+            match call {
+                Call::Hear => {
+                    let answer = node.hear(
+                        BusId(asked.number),
+                        asked.dlc,
+                        &payload[0..len],
+                        &mut out[0..room],
+                    );
+                    node = answer.node;
+                    let told = answer.reply;
+                    reply = told.number();
+                    count = answer.written;
+                }
+                Call::Tick => {
+                    let answer = node.tick(&mut out[0..room]);
+                    node = answer.node;
+                    let told = answer.reply;
+                    reply = told.number();
+                    count = answer.written;
+                }
+                Call::Request => {
+                    let answer = node.request(Stream(asked.number), &payload[0..len]);
+                    node = answer.node;
+                    let told = answer.reply;
+                    reply = told.number();
+                }
+                Call::NextFrame => {
+                    let answer = node.next_frame(&mut out[0..room]);
+                    node = answer.node;
+                    let told = answer.reply;
+                    reply = told.number();
+                    id = answer.id.0;
+                    count = answer.len;
+                }
+                Call::SetUp => {
+                    let answer = node.set_up(Stream(asked.number), asked.settings);
+                    node = answer.node;
+                    let told = answer.reply;
+                    reply = told.number();
+                }
+            }
+        }
+        sum = numbers::mixed(sum, reply);
+        sum = numbers::mixed(sum, id);
+        sum = numbers::mixed(sum, numbers::small(count));
+        sum = numbers::mixed_some(sum, &out, random);
+        i += 1;
+    }
+    ended(node, sum)
+}
+
+// The checksum with what the node does at a next frame and a tick.
+fn ended(node: Node, sum: u32) -> u32 {
+    let mut out = [0u8; 512];
+    let given = node.next_frame(&mut out);
+    let mid = given.node;
+    let delivered = mid.tick(&mut out);
+    let last = delivered.node;
+    let with_id = numbers::mixed(sum, given.id.0);
+    let with_counter = numbers::mixed(with_id, last.counter as u32);
+    numbers::mixed_bytes(with_counter, &out)
+}
