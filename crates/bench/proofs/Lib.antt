@@ -31,6 +31,7 @@ pub mod DeliveryTicks
 pub mod Requests
 pub mod SameOrder
 pub mod NotEmpty
+pub mod Refusers
 pub mod Dummies
 pub mod Places
 pub mod CodeTurns
