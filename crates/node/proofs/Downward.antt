@@ -13,6 +13,11 @@ step-down l i j d e h = drop-cons l j d (omega arith) ∙ ap (λ (k : ℕ). getD
 
 -- another list is filled from its end, with what f makes of the elements
 module _ {A B : Type 0} (f : A → B) (z : B) where
+  pub mapped-at : (j : ℕ) (l : List A) (d : A) → j < length l → getD (map f l) j z ≡ f (getD l j d)
+  mapped-at j [] d h = absurd (not-suc-le-zero h)
+  mapped-at zero (x ∷ xs) d h = refl
+  mapped-at (suc j) (x ∷ xs) d h = mapped-at j xs d (le-of-suc-le-suc h)
+
   abbrev pub filled : ℕ → List A → List B
   filled i l = replicate i z ++ map f (drop i l)
 
@@ -49,8 +54,12 @@ module _ {A : Type 0} (f : A → A) where
   one-changed zero (x ∷ xs) d h = refl
   one-changed (suc j) (x ∷ xs) d h = ap (λ (r : List A). x ∷ r) (one-changed j xs d (le-of-suc-le-suc h))
 
-  one-kept : (j : ℕ) (l : List A) (d : A) → j < length l → f (getD (changed (suc j) l) j d) ≡ getD (changed (suc j) l) j d
-      → changed (suc j) l ≡ changed j l
+  not-yet : (j : ℕ) (l : List A) (d : A) → j < length l → getD (changed (suc j) l) j d ≡ getD l j d
+  not-yet j [] d h = absurd (not-suc-le-zero h)
+  not-yet zero (x ∷ xs) d h = refl
+  not-yet (suc j) (x ∷ xs) d h = not-yet j xs d (le-of-suc-le-suc h)
+
+  one-kept : (j : ℕ) (l : List A) (d : A) → j < length l → f (getD l j d) ≡ getD l j d → changed (suc j) l ≡ changed j l
   one-kept j [] d h e = absurd (not-suc-le-zero h)
   one-kept zero (x ∷ xs) d h e = ap (λ (y : A). y ∷ map f xs) (rw e)
   one-kept (suc j) (x ∷ xs) d h e = ap (λ (r : List A). x ∷ r) (one-kept j xs d (le-of-suc-le-suc h) e)
@@ -59,5 +68,8 @@ module _ {A : Type 0} (f : A → A) where
     pub changed-one-more : set (changed i l) j (f (getD (changed i l) j d)) ≡ changed j l
     changed-one-more = rw (← e) (one-changed j l d (omega arith))
 
-    pub changed-one-kept : f (getD (changed i l) j d) ≡ getD (changed i l) j d → changed i l ≡ changed j l
-    changed-one-kept k = rw (← e) (one-kept j l d (omega arith) (rw (← e) at k))
+    pub changed-not-yet : getD (changed i l) j d ≡ getD l j d
+    changed-not-yet = rw (← e) (not-yet j l d (omega arith))
+
+    pub changed-one-kept : f (getD l j d) ≡ getD l j d → changed i l ≡ changed j l
+    changed-one-kept k = rw (← e) (one-kept j l d (omega arith) k)

@@ -6,7 +6,7 @@ use mathlib.Core.List.{List, [], _∷_, map}
 use mathlib.Core.Logic.{_⊎_, inl, inr}
 use Prim.Native.Nat.{ℕ, suc, _+_, _≤_, _<_}
 use native.Mathlib.Omega.{arith}
-use borrow.Author.Tests.{lt-ltb, le-ltb, le-leb, lt-leb, eq-eqb, ne-eqb, ltb-true, ltb-false, leb-true, leb-false}
+use borrow.Author.Tests.{lt-ltb, le-ltb, le-leb, lt-leb, eq-eqb, ne-eqb, ltb-true, ltb-false}
 use lib.ListN.{length, getD}
 use lib.Dec.{ltb, leb}
 use Rattle.node.specs.declared.slots.Slot.{Slot}
@@ -16,14 +16,7 @@ use Rattle.node.specs.Selection.{keyOf, leastAt}
 use Rattle.node.specs.Reachable.{All}
 use Rattle.node.proofs.Ascending.{Before, Ascends}
 use Rattle.node.proofs.Selecting.{low-key-is-not-before, high-key-is-not-before, key-is-before, only-key-is-before, least-is-here}
-use Rattle.node.proofs.Selecting.{least-is-later}
-
-at-most-or-above : (a b : ℕ) → (a ≤ b) ⊎ (b < a)
-at-most-or-above a b = go (leb a b) refl
-  where
-    go : (t : Bool) → leb a b ≡ t → (a ≤ b) ⊎ (b < a)
-    go true p = inl (leb-true a b p)
-    go false p = inr (leb-false a b p)
+use Rattle.node.proofs.Selecting.{least-is-later, at-most-or-above}
 
 pub data Compared (a b : ℕ) : Type 0 where
   below : a < b → Compared a b
@@ -166,15 +159,23 @@ module _ (clock : Clock) (now : ℕ) where
   abbrev pub keyAt : Slot → ℕ
   keyAt x = keyOf (ageOf clock now x) x
 
-  pub due-slots-fit : (slots : List Slot) → length (dueSlots clock now slots) ≤ length slots
-  unfolding dueSlots
-  due-slots-fit [] = omega arith
-  due-slots-fit (x ∷ xs) = go (due-slots-fit xs) (due (ageOf clock now x) x) refl
-    where
-      go : length (dueSlots clock now xs) ≤ length xs → (t : Bool) → due (ageOf clock now x) x ≡ t
-          → length (dueSlots clock now (x ∷ xs)) ≤ length (x ∷ xs)
-      go ih true e = let h = place-lengthens x (dueSlots clock now xs) in rw e (omega arith)
-      go ih false e = rw e (omega arith)
+  -- with one slot more, at most one more is due
+  module _ (x : Slot) (xs : List Slot) where
+    pub one-more-due : length (dueSlots clock now (x ∷ xs)) ≤ suc (length (dueSlots clock now xs))
+    unfolding dueSlots
+    one-more-due = go (due (ageOf clock now x) x) refl
+      where
+        go : (t : Bool) → due (ageOf clock now x) x ≡ t → length (dueSlots clock now (x ∷ xs)) ≤ suc (length (dueSlots clock now xs))
+        go true e = rw e (place-lengthens x (dueSlots clock now xs))
+        go false e = rw e (omega arith)
+
+    pub no-more-due : keyAt x ≡ 0 → dueSlots clock now (x ∷ xs) ≡ dueSlots clock now xs
+    unfolding dueSlots keyOf
+    no-more-due k = go (due (ageOf clock now x) x) refl
+      where
+        go : (t : Bool) → due (ageOf clock now x) x ≡ t → dueSlots clock now (x ∷ xs) ≡ dueSlots clock now xs
+        go true e = let none : x .stream .0 + 1 ≡ 0 = rw e at k in let never : ⊥ = omega arith in absurd never
+        go false e = rw e
 
   -- the place of the least key from a number on is that of the first slot of the rest
   module _ (d : Slot) (from : ℕ) (pos : 1 ≤ from) where

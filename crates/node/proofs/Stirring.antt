@@ -1,16 +1,16 @@
 -- The three tests of a tick. Each fails of what is too young. A sender's hold may be over; a receiver's message is late, if
 -- it is unconfirmed in 2M, or else due.
-use mathlib.Core.Path.{_≡_, refl}
+use mathlib.Core.Path.{_≡_, refl, _∙_}
 use mathlib.Core.Bool.{Bool, true, false, not, _&&_, _||_, and-true, and-false, or-false, and-assoc, false≢true}
 use Prim.Native.Nat.{ℕ, _+_, _<_, _≤_}
 use native.Mathlib.Omega.{arith}
 use lib.Dec.{ltb}
-use borrow.Author.Tests.{lt-ltb, le-ltb, ltb-false, ne-eqb, eqb-true}
-use Rattle.wire.specs.Settings.{isImd, isTwoMessage}
+use borrow.Author.Tests.{lt-ltb, le-ltb, ltb-false, ne-eqb, eqb-true, eqb-false}
+use Rattle.wire.specs.Settings.{isImd, isTwoMessage, sends}
 use Rattle.node.specs.declared.slots.Slot.{Slot}
 use Rattle.node.specs.Slots.{isReceiver, isSender}
 use Rattle.node.specs.Tick.{late, due, holdOver, lapsed}
-use Rattle.node.specs.Selection.{stirs, mayStir, keyOf}
+use Rattle.node.specs.Selection.{stirs, mayStir, stirred, keyOf}
 use Rattle.node.proofs.Choices.{neither}
 
 both-sides : (two confirmed : Bool) → two && not confirmed ≡ true → (two ≡ true) × (confirmed ≡ false)
@@ -65,7 +65,32 @@ module _ (age : ℕ) (x : Slot) where
       rw (ne-eqb (x .settings .role) 1 r, and-assoc (isReceiver x && x .message .held) (isTwoMessage (x .settings)) (not (x .message .confirmed)), t)
       (simp (and-false, or-false))
 
-  pub unheld-is-still : x .message .held ≡ false → stirs age x ≡ false
+  sender-is-not-late : x .settings .role ≡ 1 → late age x ≡ false
+  unfolding late
+  sender-is-not-late e = rw e (simp and-false)
+
+  sender-is-not-due : x .settings .role ≡ 1 → due age x ≡ false
+  unfolding due
+  sender-is-not-due e = rw e (simp and-false)
+
+  ready-is-not-late : waits ≡ false → late age x ≡ false
+  unfolding late
+  ready-is-not-late t =
+      rw (and-assoc (isReceiver x && x .message .held) (isTwoMessage (x .settings)) (not (x .message .confirmed)), t) (simp and-false)
+
+  -- of a slot that stirs, role, class and confirmation tell which of the tests holds
+  pub stirring-lapses : stirs age x ≡ true → stirred x ≡ lapsed age x
+  unfolding lapsed stirred
+  stirring-lapses s = go (sends (x .settings)) waits refl refl
+    where
+      go : (t w : Bool) → sends (x .settings) ≡ t → waits ≡ w → stirred x ≡ lapsed age x
+      go true w t e =
+          let role = eqb-true (x .settings .role) 1 t in
+          rw (sender-is-not-late role, sender-is-not-due role, stirs-sender role ∙ s, t)
+      go false true t e = rw (stirs-waiting (eqb-false (x .settings .role) 1 t) e ∙ s, t, e)
+      go false false t e = rw (ready-is-not-late e, stirs-ready (eqb-false (x .settings .role) 1 t) e ∙ s, t, e)
+
+  unheld-is-still : x .message .held ≡ false → stirs age x ≡ false
   unfolding late due holdOver stirs
   unheld-is-still h = rw h (simp and-false)
 

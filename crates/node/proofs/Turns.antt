@@ -4,7 +4,7 @@ use mathlib.Core.Bool.{Bool, true, false, true≢false}
 use mathlib.Core.List.{List, [], _∷_, _++_, map, append-nil, append-assoc}
 use Prim.Native.Nat.{ℕ, suc, _+_, _-_, _*_, _≤_, _<_}
 use native.Mathlib.Omega.{arith}
-use lib.ListN.{length, take, drop, getD, set, replicate, length-map, length-append, length-drop, drop-of-length-le}
+use lib.ListN.{length, take, drop, getD, set, replicate, length-set, length-map, length-append, length-drop, drop-of-length-le}
 use lib.Seq.{take-all, drop-drop, take-at, drop-at}
 use Rattle.wire.specs.Delivered.{recordOf, over, fitting}
 use Rattle.wire.proofs.Records.{cut-length, does-fit}
@@ -13,13 +13,15 @@ use Rattle.node.specs.declared.Node.{Node}
 use Rattle.node.specs.Slots.{empty, some}
 use Rattle.node.specs.Nodes.{withSlots}
 use Rattle.node.specs.Clock.{Clock}
-use Rattle.node.specs.Tick.{lapsed, ageOf, tickSlot, dueSlots, recordFrom, recordsFrom}
-use Rattle.node.specs.Selection.{stirs, keyOf, leastAt}
+use Rattle.node.specs.Tick.{ageOf, tickSlot, dueSlots, recordFrom, recordsFrom}
+use Rattle.node.specs.Selection.{stirs, stirred, keyOf, before, leastAt}
 use Rattle.node.proofs.Ascending.{Ascends, due-ascend}
-use Rattle.node.proofs.Stirring.{still-is-not-due, still-stays, still-has-no-key}
-use Rattle.node.proofs.Order.{keyAt, rest, rest-at-first, rest-counts, rest-goes-on, Points, due-slots-fit, least-key-points}
+use Rattle.node.proofs.Stirring.{still-is-not-due, still-stays, still-has-no-key, stirring-lapses}
+use Rattle.node.proofs.Selecting.{Best, best-of-none, best-is-here, best-is-later, low-key-is-not-before, least-without-lower}
+use Rattle.node.proofs.Selecting.{taken-out-is-lower}
+use Rattle.node.proofs.Order.{keyAt, rest, rest-at-first, rest-counts, rest-goes-on, Points, one-more-due, no-more-due, least-key-points}
 use Rattle.node.proofs.Downward.{filled, filled-at-first, filled-one-more, filled-one-blank, changed, changed-at-first, changed-one-more}
-use Rattle.node.proofs.Downward.{changed-one-kept, step-down}
+use Rattle.node.proofs.Downward.{changed-one-kept, changed-not-yet, mapped-at, step-down}
 
 -- ── looking ──
 module _ (clock : Clock) (now : ℕ) where
@@ -40,35 +42,55 @@ module _ (clock : Clock) (now : ℕ) where
           let others = ih (rw s at e) in
           (rw (still-stays (ageOf clock now x) x s, others .0), rw (still-is-not-due (ageOf clock now x) x s) (others .1))
 
-  -- the slots from i on were looked at: their keys, and whether one of them stirs
-  pub record Looked (slots : List Slot) (i : ℕ) (keys : List ℕ) (stirring : Bool) : Type 0 where
+  -- the slots from i on were looked at: their keys, which of them stir, whether any does, how many are due, and the least key
+  pub record Looked (slots : List Slot) (i : ℕ) (keys : List ℕ) (stirring : List Bool) (any : Bool) (left place best : ℕ) : Type 0 where
     pub many : length slots ≡ 32
     pub inside : i ≤ 32
     pub keys-are : keys ≡ filled (keyAt clock now) 0 i slots
-    pub stirring-is : stirring ≡ some stirsAt (drop i slots)
+    pub stirring-are : stirring ≡ filled stirsAt false i slots
+    pub any-is : any ≡ some stirsAt (drop i slots)
+    pub few : length (dueSlots clock now (drop i slots)) ≤ left
+    pub fits : left + i ≤ 32
+    pub least-is : Best 1 (map (keyAt clock now) (drop i slots)) i place best
 
-  pub looked-at-first : (slots : List Slot) → length slots ≡ 32 → Looked slots 32 (replicate 32 0) false
-  unfolding some
+  pub looked-at-first : (slots : List Slot) → length slots ≡ 32 → Looked slots 32 (replicate 32 0) (replicate 32 false) false 0 32 0
+  unfolding some dueSlots
   looked-at-first slots many =
+      let none = drop-of-length-le slots {i = 32} (omega arith) in
       record {
         many = many;
         inside = omega arith;
         keys-are = filled-at-first (keyAt clock now) 0 32 slots many;
-        stirring-is = rw (drop-of-length-le slots {i = 32} (omega arith));
+        stirring-are = filled-at-first stirsAt false 32 slots many;
+        any-is = rw none;
+        few = rw none (omega arith);
+        fits = omega arith;
+        least-is = rw none (best-of-none 1 32);
       }
 
-  module _ {slots : List Slot} {i : ℕ} {keys : List ℕ} {stirring : Bool} (l : Looked slots i keys stirring) where
-    pub looked-at-all : i ≤ 0 → (keys ≡ map (keyAt clock now) slots) × (stirring ≡ some stirsAt slots)
-    looked-at-all h = let all : i ≡ 0 = omega arith in (rw all at (l .keys-are), rw all at (l .stirring-is))
+  module _ {slots : List Slot} {i : ℕ} {keys : List ℕ} {stirring : List Bool} {any : Bool} {left place best : ℕ}
+      (l : Looked slots i keys stirring any left place best) where
+    pub looked-at-all : i ≤ 0 → (keys ≡ map (keyAt clock now) slots) × (stirring ≡ map stirsAt slots) × (any ≡ some stirsAt slots)
+    looked-at-all h = let all : i ≡ 0 = omega arith in (rw all at (l .keys-are), rw all at (l .stirring-are), rw all at (l .any-is))
 
-    pub as-many-keys : i ≤ 0 → length keys ≡ 32
-    as-many-keys h = ap length (looked-at-all h .0) ∙ length-map slots (keyAt clock now) ∙ l .many
+    pub least-looked-at : i ≤ 0 → place ≡ leastAt 1 keys
+    least-looked-at h =
+        let all : i ≡ 0 = omega arith in
+        let found : place ≡ 0 + leastAt 1 (map (keyAt clock now) slots) = rw all at (l .least-is .at) in
+        rw (looked-at-all h .0) (omega arith)
+
+    pub few-looked-at : i ≤ 0 → (length (dueSlots clock now slots) ≤ left) × (left ≤ 32)
+    few-looked-at h = let all : i ≡ 0 = omega arith in (rw all at (l .few), omega (arith, l .fits))
 
     module _ (j : ℕ) (d : Slot) (e : suc j ≡ i) (age : ℕ) (a : age ≡ ageOf clock now (getD slots j d)) where
       one-more : drop j slots ≡ getD slots j d ∷ drop i slots
       one-more = step-down slots i j d e (omega (arith, l .many, l .inside))
 
-      pub looked-at-still : stirs age (getD slots j d) ≡ false → Looked slots j keys stirring
+      -- the keys from i on
+      abbrev later : List ℕ
+      later = map (keyAt clock now) (drop i slots)
+
+      pub looked-at-still : stirs age (getD slots j d) ≡ false → Looked slots j keys stirring any left place best
       unfolding some
       looked-at-still s =
           let x = getD slots j d in
@@ -78,19 +100,50 @@ module _ (clock : Clock) (now : ℕ) where
             many = l .many;
             inside = omega (arith, l .inside);
             keys-are = l .keys-are ∙ filled-one-blank (keyAt clock now) 0 i j slots d e (omega (arith, l .many, l .inside)) blank;
-            stirring-is = l .stirring-is ∙ rw (one-more, still);
+            stirring-are = l .stirring-are ∙ filled-one-blank stirsAt false i j slots d e (omega (arith, l .many, l .inside)) still;
+            any-is = l .any-is ∙ rw (one-more, still);
+            few = rw (one-more, no-more-due clock now x (drop i slots) blank) (l .few);
+            fits = omega (arith, l .fits);
+            least-is = rw (one-more, blank) (best-is-later 1 0 later i j place best e (l .least-is) (low-key-is-not-before 1 0 best (omega arith)));
           }
 
-      pub looked-at-stirring : stirs age (getD slots j d) ≡ true → (key : ℕ) → key ≡ keyOf age (getD slots j d) → Looked slots j (set keys j key) true
-      unfolding some
-      looked-at-stirring s key k =
-          let stirred : stirsAt (getD slots j d) ≡ true = rw a at s in
-          record {
-            many = l .many;
-            inside = omega (arith, l .inside);
-            keys-are = rw (k, a, l .keys-are) (filled-one-more (keyAt clock now) 0 i j slots d e (omega (arith, l .many, l .inside)));
-            stirring-is = rw (one-more, stirred);
-          }
+      module _ (s : stirs age (getD slots j d) ≡ true) (key : ℕ) (k : key ≡ keyOf age (getD slots j d)) where
+        key-is : keyAt clock now (getD slots j d) ≡ key
+        key-is = rw (k, a)
+
+        looked-at-key : (left′ place′ best′ : ℕ) → length (dueSlots clock now (getD slots j d ∷ drop i slots)) ≤ left′ → left′ + j ≤ 32
+            → Best 1 (key ∷ later) j place′ best′ → Looked slots j (set keys j key) (set stirring j true) true left′ place′ best′
+        unfolding some
+        looked-at-key left′ place′ best′ few fits least-is =
+            let stirred : stirsAt (getD slots j d) ≡ true = rw a at s in
+            record {
+              many = l .many;
+              inside = omega (arith, l .inside);
+              keys-are = rw (k, a, l .keys-are) (filled-one-more (keyAt clock now) 0 i j slots d e (omega (arith, l .many, l .inside)));
+              stirring-are = rw (← stirred, l .stirring-are) (filled-one-more stirsAt false i j slots d e (omega (arith, l .many, l .inside)));
+              any-is = rw (one-more, stirred);
+              few = rw one-more few;
+              fits = fits;
+              least-is = rw (one-more, key-is) least-is;
+            }
+
+        -- it is not due
+        pub looked-at-no-key : key ≤ 0 → Looked slots j (set keys j key) (set stirring j true) true left place best
+        looked-at-no-key h =
+            let none : key ≡ 0 = omega arith in
+            let same = no-more-due clock now (getD slots j d) (drop i slots) (key-is ∙ none) in
+            looked-at-key left place best (rw same (l .few)) (omega (arith, l .fits))
+            (best-is-later 1 key later i j place best e (l .least-is) (low-key-is-not-before 1 key best (omega arith)))
+
+        grown : length (dueSlots clock now (getD slots j d ∷ drop i slots)) ≤ left + 1
+        grown = omega (arith, one-more-due clock now (getD slots j d) (drop i slots), l .few)
+
+        pub looked-at-least : before 1 key best ≡ true → Looked slots j (set keys j key) (set stirring j true) true (left + 1) j key
+        looked-at-least t = looked-at-key (left + 1) j key grown (omega (arith, l .fits)) (best-is-here 1 key later i j place best e (l .least-is) t)
+
+        pub looked-at-more : before 1 key best ≡ false → Looked slots j (set keys j key) (set stirring j true) true (left + 1) place best
+        looked-at-more t =
+            looked-at-key (left + 1) place best grown (omega (arith, l .fits)) (best-is-later 1 key later i j place best e (l .least-is) t)
 
 -- ── writing ──
 -- a part of an output from `at` on was lent, and came back with bytes at its front
@@ -151,27 +204,31 @@ module _ {slots : List Slot} {out₀ out : List ℕ} {at from : ℕ} (w : Writin
         }
 
 -- ── delivering ──
--- the records of the due slots are written one by one: `place` is that of the next slot
-pub record Delivering (clock : Clock) (now : ℕ) (slots : List Slot) (keys out₀ out : List ℕ) (at from place : ℕ) : Type 0 where
+-- the records of the due slots are written one by one: at most `left` are left, and `place` is that of the next slot; keys
+-- of which the record is written were taken out
+pub record Delivering (clock : Clock) (now : ℕ) (slots : List Slot) (keys out₀ out : List ℕ) (left place at from : ℕ) : Type 0 where
   pub many : length slots ≡ 32
   pub long : 512 ≤ length out₀
-  pub keys-are : keys ≡ map (keyAt clock now) slots
+  pub as-many : length keys ≡ 32
+  pub low : (p : ℕ) → getD keys p 0 ≤ getD (map (keyAt clock now) slots) p 0
+  pub same : (f : ℕ) → from ≤ f → leastAt f keys ≡ leastAt f (map (keyAt clock now) slots)
   pub counts : 1 ≤ from
-  pub small : from ≤ 4294967297
+  pub few : length (rest from (dueSlots clock now slots)) ≤ left
   pub found : place ≡ leastAt from keys
   pub writing : Writing (dueSlots clock now slots) out₀ out at from
 
-pub delivering-at-first : (clock : Clock) (now : ℕ) (slots : List Slot) (keys out : List ℕ) (place : ℕ)
-    → length slots ≡ 32 → 512 ≤ length out → keys ≡ map (keyAt clock now) slots → place ≡ leastAt 1 keys
-    → Delivering clock now slots keys out out 0 1 place
-delivering-at-first clock now slots keys out place many long keys-are found =
-    let few = due-slots-fit clock now slots in
+pub delivering-at-first : (clock : Clock) (now : ℕ) (slots : List Slot) (keys out : List ℕ) (left place : ℕ)
+    → length slots ≡ 32 → 512 ≤ length out → keys ≡ map (keyAt clock now) slots → (length (dueSlots clock now slots) ≤ left) × (left ≤ 32)
+    → place ≡ leastAt 1 keys → Delivering clock now slots keys out out left place 0 1
+delivering-at-first clock now slots keys out left place many long keys-are few found =
     record {
       many = many;
       long = long;
-      keys-are = keys-are;
+      as-many = ap length keys-are ∙ length-map slots (keyAt clock now) ∙ many;
+      low = λ p. rw keys-are (omega arith);
+      same = λ f h. rw keys-are;
       counts = omega arith;
-      small = omega arith;
+      few = rw (rest-at-first (dueSlots clock now slots)) (few .0);
       found = found;
       writing = writing-at-first (dueSlots clock now slots) out (omega arith);
     }
@@ -181,13 +238,13 @@ record Next (from : ℕ) (slots : List Slot) (x : Slot) : Type 0 where
   others : List Slot
   is-first : rest from slots ≡ x ∷ others
 
-module _ {clock : Clock} {now : ℕ} {slots : List Slot} {keys out₀ out : List ℕ} {at from place : ℕ}
-    (g : Delivering clock now slots keys out₀ out at from place) where
+module _ {clock : Clock} {now : ℕ} {slots : List Slot} {keys out₀ out : List ℕ} {left place at from : ℕ}
+    (g : Delivering clock now slots keys out₀ out left place at from) where
   abbrev dues : List Slot
   dues = dueSlots clock now slots
 
   pointed : (d : Slot) → Points d slots (map (keyAt clock now) slots) place (rest from dues)
-  pointed d = rw (g .found, g .keys-are) (least-key-points clock now d from (g .counts) slots)
+  pointed d = rw (g .found, g .same from (omega arith)) (least-key-points clock now d from (g .counts) slots)
 
   none-left : 32 ≤ place → rest from dues ≡ []
   none-left h = go (rest from dues) refl (pointed empty)
@@ -213,8 +270,37 @@ module _ {clock : Clock} {now : ℕ} {slots : List Slot} {keys out₀ out : List
         go [] e p = let none : ⊥ = omega (arith, p .0, g .many) in absurd none
         go (x ∷ xs) e p = record { others = xs; is-first = rw (p .1) e }
 
-    pub next-counts : from ≤ slot .stream .0 + 1
-    next-counts = rest-counts from slot (next .others) dues (next .is-first)
+    key-is-low : getD keys place 0 ≤ slot .stream .0 + 1
+    key-is-low = go (rest from dues) (pointed d)
+      where
+        go : (l : List Slot) → Points d slots (map (keyAt clock now) slots) place l → getD keys place 0 ≤ slot .stream .0 + 1
+        go [] p = let none : ⊥ = omega (arith, p .0, g .many) in absurd none
+        go (x ∷ xs) p = rw (p .1) (omega (arith, p .2, g .low place))
+
+    -- the keys without that of the slot are the same for the searches that follow
+    same-without : (f : ℕ) → slot .stream .0 + 2 ≤ f → leastAt f (set keys place 0) ≡ leastAt f (map (keyAt clock now) slots)
+    same-without f h =
+        let counts = rest-counts from slot (next .others) dues (next .is-first) in
+        least-without-lower f (omega arith) keys place (omega (arith, key-is-low)) ∙ g .same f (omega arith)
+
+    pub one-is-left : 1 ≤ left
+    one-is-left = let few = rw (next .is-first) at (g .few) in omega arith
+
+    -- past the slot lie the others
+    others-are-left : rest (slot .stream .0 + 2) dues ≡ next .others
+    others-are-left = rest-goes-on from slot (next .others) dues (due-ascend clock now slots) (next .is-first)
+
+    fewer : length (rest (slot .stream .0 + 2) dues) ≤ left - 1
+    fewer = let few = rw (next .is-first) at (g .few) in rw others-are-left (omega arith)
+
+    -- with none left, none is found
+    pub none-is-found : (stream : ℕ) → stream ≡ slot .stream .0 → left - 1 ≤ 0 → 32 ≡ leastAt (stream + 2) (set keys place 0)
+    none-is-found stream s h = go (rest (stream + 2) dues) (rw s fewer) (least-key-points clock now d (stream + 2) (omega arith) slots)
+      where
+        go : (l : List Slot) → length l ≤ left - 1 → Points d slots (map (keyAt clock now) slots) (leastAt (stream + 2) (map (keyAt clock now) slots)) l
+            → 32 ≡ leastAt (stream + 2) (set keys place 0)
+        go [] f p = rw (same-without (stream + 2) (omega arith)) (omega (arith, p .0, g .many))
+        go (x ∷ xs) f p = let none : ⊥ = omega arith in absurd none
 
     pub next-has-room : at + 16 ≤ length out
     next-has-room =
@@ -244,8 +330,9 @@ module _ {clock : Clock} {now : ℕ} {slots : List Slot} {keys out₀ out : List
 
       pub delivering-one-more : (r : ℕ) (back : List ℕ) (stream place′ : ℕ)
           → (r ≡ length (fitting asked part)) × (back ≡ over (fitting asked part) part)
-          → (stream ≡ slot .stream .0) × (stream < 4294967296) → place′ ≡ leastAt (stream + 2) keys
-          → Delivering clock now slots keys out₀ (take at out ++ (back ++ drop (length out - at) (drop at out))) (at + r) (stream + 2) place′
+          → stream ≡ slot .stream .0 → place′ ≡ leastAt (stream + 2) (set keys place 0)
+          → Delivering clock now slots (set keys place 0) out₀ (take at out ++ (back ++ drop (length out - at) (drop at out)))
+          (left - 1) place′ (at + r) (stream + 2)
       delivering-one-more r back stream place′ w s found =
           let same : asked ≡ recordFrom slot = rw (b .0) in
           let size : r ≡ length (recordFrom slot) = w .0 ∙ ap length (asked-fits ∙ same) in
@@ -255,11 +342,13 @@ module _ {clock : Clock} {now : ℕ} {slots : List Slot} {keys out₀ out : List
           record {
             many = g .many;
             long = g .long;
-            keys-are = g .keys-are;
+            as-many = length-set keys place 0 ∙ g .as-many;
+            low = λ p. omega (arith, taken-out-is-lower keys place p, g .low p);
+            same = λ f h. same-without f (omega arith);
             counts = omega arith;
-            small = omega (arith, s .1);
+            few = rw s fewer;
             found = found;
-            writing = rw (s .0)
+            writing = rw s
                 (writing-one-more (g .writing) slot (n .others) (n .is-first) asc r back (g .long) size (written-is-small r (w .0)) writes);
           }
 
@@ -282,27 +371,38 @@ module _ {clock : Clock} {now : ℕ} {n₀ n : Node} {i : ℕ} (l : Lapsing cloc
   pub all-lapsed : i ≤ 0 → n ≡ withSlots (map (tickSlot clock now) (n₀ .slots)) n₀
   all-lapsed h = let all : i ≡ 0 = omega arith in rw all at (l .node-is)
 
-  module _ (j : ℕ) (d : Slot) (e : suc j ≡ i) (age : ℕ) (a : age ≡ ageOf clock now (getD (n .slots) j d)) where
+  module _ (j : ℕ) (d : Slot) (e : suc j ≡ i) where
     within : i ≤ length (n₀ .slots)
     within = omega (arith, l .many, l .inside)
 
     abbrev with-slots : List Slot → Node
     with-slots slots = withSlots slots n₀
 
-    pub lapsing-one-more : (x : Slot) → x ≡ lapsed age (getD (n .slots) j d) → Lapsing clock now n₀ (withSlots (set (n .slots) j x) n) j
-    lapsing-one-more x q =
+    -- what was seen of the slot
+    seen : (stirring : List Bool) → stirring ≡ map (stirsAt clock now) (n₀ .slots) → (t : Bool) → getD stirring j false ≡ t
+        → stirsAt clock now (getD (n₀ .slots) j d) ≡ t
+    seen stirring m t s = sym (mapped-at (stirsAt clock now) false j (n₀ .slots) d (omega (arith, within))) ∙ rw m at s
+
+    pub lapsing-one-more : (stirring : List Bool) → stirring ≡ map (stirsAt clock now) (n₀ .slots) → getD stirring j false ≡ true
+        → (x : Slot) → x ≡ stirred (getD (n .slots) j d) → Lapsing clock now n₀ (withSlots (set (n .slots) j x) n) j
+    lapsing-one-more stirring m s x q =
+        let y = getD (n .slots) j d in
+        let same : y ≡ getD (n₀ .slots) j d = rw (l .node-is) (changed-not-yet (tickSlot clock now) i j (n₀ .slots) d e within) in
+        let stirs : stirsAt clock now y ≡ true = rw same (seen stirring m true s) in
+        let lapses : x ≡ tickSlot clock now y = q ∙ stirring-lapses (ageOf clock now y) y stirs in
         record {
           many = l .many;
           inside = omega (arith, l .inside);
-          node-is = rw (q, a, l .node-is) (ap with-slots (changed-one-more (tickSlot clock now) i j (n₀ .slots) d e within));
+          node-is = rw (lapses, l .node-is) (ap with-slots (changed-one-more (tickSlot clock now) i j (n₀ .slots) d e within));
         }
 
-    pub lapsing-one-kept : stirs age (getD (n .slots) j d) ≡ false → Lapsing clock now n₀ n j
-    lapsing-one-kept s =
-        let x = getD (n .slots) j d in
-        let same : tickSlot clock now x ≡ x = rw a at (still-stays age x s) in
+    pub lapsing-one-kept : (stirring : List Bool) → stirring ≡ map (stirsAt clock now) (n₀ .slots) → getD stirring j false ≡ false
+        → Lapsing clock now n₀ n j
+    lapsing-one-kept stirring m s =
+        let x = getD (n₀ .slots) j d in
+        let same : tickSlot clock now x ≡ x = still-stays (ageOf clock now x) x (seen stirring m false s) in
         record {
           many = l .many;
           inside = omega (arith, l .inside);
-          node-is = l .node-is ∙ ap with-slots (changed-one-kept (tickSlot clock now) i j (n₀ .slots) d e within (rw (l .node-is) at same));
+          node-is = l .node-is ∙ ap with-slots (changed-one-kept (tickSlot clock now) i j (n₀ .slots) d e within same);
         }

@@ -1,12 +1,13 @@
 -- How the tick's code takes the due slots by ascending stream: each slot has a key, and the least key from a number on is
 -- looked for again and again. Only contracts of private functions cite this.
-use Prim.Native.Nat.{ℕ, suc, _+_}
-use mathlib.Core.Bool.{Bool, cond, _&&_, _||_}
+use Prim.Native.Nat.{ℕ, suc, _+_, _-_, _%_}
+use mathlib.Core.Bool.{Bool, cond, not, _&&_, _||_}
 use mathlib.Core.List.{List, [], _∷_}
 use lib.ListN.{getD}
 use lib.Dec.{eqb, leb, ltb}
-use Rattle.wire.specs.Settings.{isTwoMessage}
+use Rattle.wire.specs.Settings.{isTwoMessage, sends}
 use Rattle.node.specs.declared.slots.Slot.{Slot}
+use Rattle.node.specs.Slots.{nothing, released, abortPending, withParts, withMessage}
 use Rattle.node.specs.Tick.{late, due, holdOver}
 
 -- the tick changes the slot
@@ -17,6 +18,12 @@ stirs age x = late age x || due age x || holdOver age x
 unfoldable pub mayStir : (age : ℕ) → Slot → Bool
 mayStir age x = x .message .held && (ltb (x .settings .dd) age || isTwoMessage (x .settings) && ltb (x .settings .dc) age)
 
+-- what the tick makes of a slot that it changes: the hold ends; dropped with an abort pending; delivered
+unfoldable pub stirred : Slot → Slot
+stirred x =
+    cond (sends (x .settings)) (withMessage (released (x .message)) x)
+    (cond (isTwoMessage (x .settings) && not (x .message .confirmed)) (withParts x nothing (abortPending (x .pending))) (withMessage nothing x))
+
 -- one above the stream of a slot that is due; 0, where it is not
 unfoldable pub keyOf : (age : ℕ) → Slot → ℕ
 keyOf age x = cond (due age x) (x .stream .0 + 1) 0
@@ -24,6 +31,10 @@ keyOf age x = cond (due age x) (x .stream .0 + 1) 0
 -- a key that counts, before the best of those after it, which is 0 where none of them counts
 abbrev pub before : (from key best : ℕ) → Bool
 before from key best = leb from key && (eqb best 0 || leb key best)
+
+-- how far a key lies above a number, modulo 2^64
+abbrev pub above : (from key : ℕ) → ℕ
+above from key = (key + (18446744073709551616 - from)) % 18446744073709551616
 
 -- the place of the least key that is `from` or above, the first of them; where there is none, the list's length
 unfoldable pub leastAt : (from : ℕ) → List ℕ → ℕ

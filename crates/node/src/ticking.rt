@@ -8,13 +8,13 @@ use wire::reply::Reply;
 use wire::settings::Settings;
 ghost use mathlib.Core.Path.{_≡_};
 ghost use mathlib.Core.List.{List};
-ghost use Prim.Native.Nat.{_+_, _<_};
+ghost use Prim.Native.Nat.{_+_, _≤_, _<_};
 ghost use lib.ListN.{length};
 ghost use Rattle.wire.specs.Frames.{maxPayload};
 ghost use Rattle.wire.specs.Delivered.{over};
 ghost use Rattle.node.specs.Nodes.{delivered};
-ghost use Rattle.node.specs.Tick.{late, due, holdOver, lapsed, tick};
-ghost use Rattle.node.specs.Selection.{stirs, mayStir, keyOf, leastAt};
+ghost use Rattle.node.specs.Tick.{late, due, holdOver, tick};
+ghost use Rattle.node.specs.Selection.{stirs, mayStir, stirred, keyOf, before, above, leastAt};
 ghost use Rattle.node.specs.Clock.{rolled, unbounded};
 ghost use Rattle.node.specs.Calls.{Call, after, rollOutcome};
 
@@ -139,11 +139,20 @@ impl Slot {
         0
     }
 
-    // The slot after the tick.
-    fn lapsed(mut self, age: u16) -> Slot
-        ensures { λ r. ⌜ r ≡ lapsed age self ⌝ }
+    // What a tick makes of a slot that it changes.
+    fn stirred(mut self) -> Slot
+        ensures { λ r. ⌜ r ≡ stirred self ⌝ }
     {
-        if self.late(age) {
+        let s = self.settings;
+        let mut m = self.message;
+        if s.role == Settings::SEND {
+            m.stamp = 0;
+            m.held = false;
+            m.confirmed = false;
+            self.message = m;
+            return self;
+        }
+        if (s.class == Settings::TWO_MESSAGE) & !m.confirmed {
             let after_drop = Message::NOTHING;
             let mut p = self.pending;
             p.abort = true;
@@ -151,37 +160,40 @@ impl Slot {
             self.pending = p;
             return self;
         }
-        if self.due(age) {
-            let after_delivery = Message::NOTHING;
-            self.message = after_delivery;
-            return self;
-        }
-        if self.hold_over(age) {
-            let mut m = self.message;
-            m.stamp = 0;
-            m.held = false;
-            m.confirmed = false;
-            self.message = m;
-            return self;
-        }
+        let after_delivery = Message::NOTHING;
+        self.message = after_delivery;
         self
     }
 }
 
+// Whether a key is `from` or above, and before the best of those after it, which is 0 where none of them counts.
+fn is_before(from: u64, key: u64, best: u64) -> bool
+    ensures { λ r. ⌜ r ≡ before from key best ⌝ }
+{
+    (from <= key) & ((best == 0) | (key <= best))
+}
+
+// How far a key lies above a number; a lower key lies further above it than any other, since the difference wraps around.
+fn above(from: u64, key: u64) -> u64
+    ensures { λ r. ⌜ (r ≡ above from key) × (from < 18446744073709551616) × (key < 18446744073709551616) ⌝ }
+{
+    std::num::wrapping_sub_u64(key, from)
+}
+
 // The place of the least key that is `from` or above, the first of them; 32, where there is none.
 fn least(keys: &[u64; 32], from: u64) -> usize
-    requires { ⌜ length (now keys) ≡ 32 ⌝ }
+    requires { ⌜ (length (now keys) ≡ 32) × (1 ≤ from) ⌝ }
     ensures { λ r. ⌜ r ≡ leastAt from (now (keys .entry)) ⌝ }
 {
     let mut place: usize = 32;
-    let mut best: u64 = 0;
+    let mut nearest = u64::MAX - from;
     let mut i: usize = 32;
     while i > 0 {
         i -= 1;
-        let key = keys[i];
-        if (from <= key) & ((best == 0) | (key <= best)) {
+        let distance = above(from, keys[i]);
+        if distance <= nearest {
             place = i;
-            best = key;
+            nearest = distance;
         }
     }
     place
@@ -208,9 +220,14 @@ impl Node {
         }
         let now = next(self.counter);
         self.counter = now;
-        // Most ticks change no slot, so the slots are only read at first.
+        // Most ticks change no slot, so the slots are only read at first: which of them stir, and whether any does; of the due
+        // ones the keys, how many they are, and the place of the least key, with the key.
         let mut keys = [0u64; 32];
-        let mut stirring = false;
+        let mut stirring = [false; 32];
+        let mut any = false;
+        let mut left: usize = 0;
+        let mut place: usize = 32;
+        let mut best: u64 = 0;
         let mut i: usize = 32;
         while i > 0 {
             i -= 1;
@@ -220,41 +237,50 @@ impl Node {
                 // Read again, so that of the other slots only a few fields are read.
                 let old = self.slots[i];
                 if old.stirs(a) {
-                    keys[i] = old.key(a);
-                    stirring = true;
+                    let key = old.key(a);
+                    keys[i] = key;
+                    stirring[i] = true;
+                    any = true;
+                    if key > 0 {
+                        left += 1;
+                        if is_before(1, key, best) {
+                            place = i;
+                            best = key;
+                        }
+                    }
                 }
             }
         }
-        if !stirring {
+        if !any {
             return Delivered {
                 node: self,
                 reply: Reply::Done,
                 written: 0,
             };
         }
-        // The records of the due slots, each after the one before.
+        // The records of the due slots, each after the one before; its key is then taken out.
         let mut at: usize = 0;
         let mut from: u64 = 1;
-        let mut place = least(&keys, from);
         while place < 32 {
             let slot = self.slots[place];
             let message = slot.message;
             let bytes = message.all_bytes();
             at += write_record(&mut out[at..], slot.stream, bytes, message.len);
             from = wide32(slot.stream.0) + 2;
-            place = least(&keys, from);
+            keys[place] = 0;
+            left -= 1;
+            place = 32;
+            if left > 0 {
+                place = least(&keys, from);
+            }
         }
-        // The slots after the tick.
+        // The slots that stir, after the tick.
         let mut j: usize = 32;
         while j > 0 {
             j -= 1;
-            let slot = self.slots[j];
-            let message = slot.message;
-            if message.held {
-                let a = age(now, message.stamp);
-                if slot.stirs(a) {
-                    self.slots[j] = slot.lapsed(a);
-                }
+            if stirring[j] {
+                let slot = self.slots[j];
+                self.slots[j] = slot.stirred();
             }
         }
         Delivered {

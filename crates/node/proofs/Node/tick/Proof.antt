@@ -4,18 +4,19 @@
 use borrow.Author.Needs.{needs}
 use borrow.Author.Tests.{not-true}
 use native.Mathlib.Omega.{arith}
-use mathlib.Core.Path.{_≡_, refl, sym, _∙_}
+use mathlib.Core.Path.{_≡_, sym, _∙_}
 use mathlib.Core.Bool.{false}
 use mathlib.Core.List.{[]}
-use Prim.Native.Nat.{_+_, _-_, _≤_}
-use lib.ListN.{length}
+use Prim.Native.Nat.{_+_, _≤_}
+use lib.ListN.{length, length-set}
 use Rattle.node.specs.declared.slots.Slot.{Slot}
 use Rattle.node.specs.Slots.{nonePending}
 use Rattle.node.specs.Clock.{rolled}
 use Rattle.node.proofs.Finding.{length-of-mapped}
-use Rattle.node.proofs.Stirring.{unheld-is-still, young-is-still}
-use Rattle.node.proofs.Turns.{Looked, looked-at-first, looked-at-still, looked-at-stirring, looked-at-all, as-many-keys, Delivering}
-use Rattle.node.proofs.Turns.{delivering-at-first, delivering-one-more, delivering-keeps-length, next-counts, next-has-room, written-is-small}
+use Rattle.node.proofs.Stirring.{young-is-still}
+use Rattle.node.proofs.Turns.{Looked, looked-at-first, looked-at-still, looked-at-no-key, looked-at-least, looked-at-more, looked-at-all}
+use Rattle.node.proofs.Turns.{few-looked-at, least-looked-at, Delivering, delivering-at-first, delivering-one-more}
+use Rattle.node.proofs.Turns.{delivering-keeps-length, one-is-left, none-is-found, next-has-room, written-is-small}
 use Rattle.node.proofs.Turns.{all-delivered, Lapsing, lapsing-at-first, lapsing-one-more, lapsing-one-kept, all-lapsed}
 use Rattle.node.proofs.Ticks.{exact-and-unbounded, tick-refused, tick-done, tick-still}
 use Rattle.node.proofs.Node.tick.Statement.{statement}
@@ -33,22 +34,24 @@ noSlot =
     }
 
 abbrev Inv-loop : tie.InvT-loop
-Inv-loop out self now keys₀ stirring₀ i₀ keys stirring i = Looked rolled now (self .slots) i keys stirring
+Inv-loop out self now keys₀ stirring₀ any₀ left₀ place₀ best₀ i₀ keys stirring any left place best i =
+    Looked rolled now (self .slots) i keys stirring any left place best
 
 abbrev μ-loop : tie.MeasureT-loop
-μ-loop out self now keys₀ stirring₀ i₀ keys stirring i = i
+μ-loop out self now keys₀ stirring₀ any₀ left₀ place₀ best₀ i₀ keys stirring any left place best i = i
 
 abbrev Inv-loop2 : tie.InvT-loop2
-Inv-loop2 out₀ self now keys stirring i at₀ from₀ place₀ out at from place = Delivering rolled now (self .slots) keys out₀ out at from place
+Inv-loop2 out₀ self now keys₀ stirring any left₀ place₀ best i at₀ from₀ out keys left place at from =
+    Delivering rolled now (self .slots) keys out₀ out left place at from
 
 abbrev μ-loop2 : tie.MeasureT-loop2
-μ-loop2 out₀ self now keys stirring i at₀ from₀ place₀ out at from place = 4294967298 - from
+μ-loop2 out₀ self now keys₀ stirring any left₀ place₀ best i at₀ from₀ out keys left place at from = left
 
 abbrev Inv-loop3 : tie.InvT-loop3
-Inv-loop3 out self₀ now stirring i at from place j₀ self j = Lapsing rolled now self₀ self j
+Inv-loop3 out self₀ now stirring any left place best i at from j₀ self j = Lapsing rolled now self₀ self j
 
 abbrev μ-loop3 : tie.MeasureT-loop3
-μ-loop3 out self₀ now stirring i at from place j₀ self j = j
+μ-loop3 out self₀ now stirring any left place best i at from j₀ self j = j
 
 -- ── refused ──
 returns : tie.Need-returns Inv-loop μ-loop Inv-loop2 μ-loop2 Inv-loop3 μ-loop3
@@ -96,29 +99,58 @@ mul-keys c = search needs
 array-write-keys : tie.Need-array-write-keys Inv-loop μ-loop Inv-loop2 μ-loop2 Inv-loop3 μ-loop3
 array-write-keys c = search needs
 
+array-write-stirring : tie.Need-array-write-stirring Inv-loop μ-loop Inv-loop2 μ-loop2 Inv-loop3 μ-loop3
+array-write-stirring c = search needs
+
+add-left : tie.Need-add-left Inv-loop μ-loop Inv-loop2 μ-loop2 Inv-loop3 μ-loop3
+add-left c = omega (arith, c .before .before .before .before .before .before .before .before .before .before .loop .inv .fits)
+
+is-before-requires : tie.Need-is-before-requires Inv-loop μ-loop Inv-loop2 μ-loop2 Inv-loop3 μ-loop3
+is-before-requires c κs = search needs
+
 loop-less : tie.Need-loop-less Inv-loop μ-loop Inv-loop2 μ-loop2 Inv-loop3 μ-loop3
 loop-less c = search needs
 
 loop-again : tie.Need-loop-again Inv-loop μ-loop Inv-loop2 μ-loop2 Inv-loop3 μ-loop3
 loop-again c =
-    let a = c .before .before .before .before .before .before in
-    let stirs = sym (c .before .before .stirs .ensures) ∙ c .before .if3 .taken in
-    looked-at-stirring rolled _ (a .before .before .before .loop .inv) _ _ (omega arith) _ (a .age .ensures) stirs _ (c .key .ensures)
+    let a = c .before .before .before .before .before .before .before .before .before in
+    let stirs = sym (c .before .before .before .before .before .stirs .ensures) ∙ c .before .before .before .before .if3 .taken in
+    let least = sym (c .before .is-before .ensures) ∙ c .if5 .taken in
+    looked-at-least rolled _ (a .before .before .before .loop .inv) _ _ (omega arith) _ (a .age .ensures) stirs _ (c .before .before .before .key .ensures) least
 
 loop-less-2 : tie.Need-loop-less-2 Inv-loop μ-loop Inv-loop2 μ-loop2 Inv-loop3 μ-loop3
 loop-less-2 c = search needs
 
 loop-again-2 : tie.Need-loop-again-2 Inv-loop μ-loop Inv-loop2 μ-loop2 Inv-loop3 μ-loop3
 loop-again-2 c =
-    let a = c .before .before .before .before .before in
-    let still = sym (c .before .stirs .ensures) ∙ c .if3 .left in
-    looked-at-still rolled _ (a .before .before .before .loop .inv) _ _ (omega arith) _ (a .age .ensures) still
+    let a = c .before .before .before .before .before .before .before .before .before in
+    let stirs = sym (c .before .before .before .before .before .stirs .ensures) ∙ c .before .before .before .before .if3 .taken in
+    let more = sym (c .before .is-before .ensures) ∙ c .if5 .left in
+    looked-at-more rolled _ (a .before .before .before .loop .inv) _ _ (omega arith) _ (a .age .ensures) stirs _ (c .before .before .before .key .ensures) more
 
 loop-less-3 : tie.Need-loop-less-3 Inv-loop μ-loop Inv-loop2 μ-loop2 Inv-loop3 μ-loop3
 loop-less-3 c = search needs
 
 loop-again-3 : tie.Need-loop-again-3 Inv-loop μ-loop Inv-loop2 μ-loop2 Inv-loop3 μ-loop3
 loop-again-3 c =
+    let a = c .before .before .before .before .before .before .before in
+    let stirs = sym (c .before .before .before .stirs .ensures) ∙ c .before .before .if3 .taken in
+    looked-at-no-key rolled _ (a .before .before .before .loop .inv) _ _ (omega arith) _ (a .age .ensures) stirs _ (c .before .key .ensures) (omega arith)
+
+loop-less-4 : tie.Need-loop-less-4 Inv-loop μ-loop Inv-loop2 μ-loop2 Inv-loop3 μ-loop3
+loop-less-4 c = search needs
+
+loop-again-4 : tie.Need-loop-again-4 Inv-loop μ-loop Inv-loop2 μ-loop2 Inv-loop3 μ-loop3
+loop-again-4 c =
+    let a = c .before .before .before .before .before in
+    let still = sym (c .before .stirs .ensures) ∙ c .if3 .left in
+    looked-at-still rolled _ (a .before .before .before .loop .inv) _ _ (omega arith) _ (a .age .ensures) still
+
+loop-less-5 : tie.Need-loop-less-5 Inv-loop μ-loop Inv-loop2 μ-loop2 Inv-loop3 μ-loop3
+loop-less-5 c = search needs
+
+loop-again-5 : tie.Need-loop-again-5 Inv-loop μ-loop Inv-loop2 μ-loop2 Inv-loop3 μ-loop3
+loop-again-5 c =
     let a = c .before .before in
     let still = young-is-still _ _ (sym (c .before .may-stir .ensures) ∙ c .if2 .left) in
     looked-at-still rolled _ (a .before .before .before .loop .inv) _ _ (omega arith) _ (a .age .ensures) still
@@ -126,17 +158,15 @@ loop-again-3 c =
 -- ── nothing stirs ──
 returns-2 : tie.Need-returns-2 Inv-loop μ-loop Inv-loop2 μ-loop2 Inv-loop3 μ-loop3
 returns-2 c =
-    let still = sym (looked-at-all rolled _ (c .before .before .loop .inv) (omega arith) .1) ∙ not-true _ (c .if4 .taken) in
+    let still = sym (looked-at-all rolled _ (c .before .before .loop .inv) (omega arith) .2) ∙ not-true _ (c .if6 .taken) in
     exact-and-unbounded _ _ _ _ (tick-still rolled _ _ (omega arith) _ (c .before .before .before .next .ensures) still)
 
 -- ── delivering ──
-least-requires : tie.Need-least-requires Inv-loop μ-loop Inv-loop2 μ-loop2 Inv-loop3 μ-loop3
-least-requires c κs = as-many-keys rolled _ (c .before .before .before .loop .inv) (omega arith)
-
 loop2-holds : tie.Need-loop2-holds Inv-loop μ-loop Inv-loop2 μ-loop2 Inv-loop3 μ-loop3
 loop2-holds c =
-    let l = c .before .before .before .before .loop .inv in
-    delivering-at-first rolled _ _ _ _ _ (l .many) (omega arith) (looked-at-all rolled _ l (omega arith) .0) (c .least .ensures)
+    let l = c .before .before .loop .inv in
+    let keys = looked-at-all rolled _ l (omega arith) .0 in
+    delivering-at-first rolled _ _ _ _ _ _ (l .many) (omega arith) keys (few-looked-at rolled _ l (omega arith)) (least-looked-at rolled _ l (omega arith))
 
 -- the longest record fits behind those that are written
 room : (c : tie.In-loop2 Inv-loop μ-loop Inv-loop2 μ-loop2 Inv-loop3 μ-loop3) → c .before .loop2 .at + 16 ≤ length (c .before .loop2 .out)
@@ -176,29 +206,58 @@ wide32-requires c κs = search needs
 add-from : tie.Need-add-from Inv-loop μ-loop Inv-loop2 μ-loop2 Inv-loop3 μ-loop3
 add-from c = search needs
 
-least-requires-2 : tie.Need-least-requires-2 Inv-loop μ-loop Inv-loop2 μ-loop2 Inv-loop3 μ-loop3
-least-requires-2 c κs =
-    let l = c .before .before .before .before .before .before .before .before .before .before .before .before .before .before .before .loop .inv in
-    as-many-keys rolled _ l (omega arith)
+mul-keys-2 : tie.Need-mul-keys-2 Inv-loop μ-loop Inv-loop2 μ-loop2 Inv-loop3 μ-loop3
+mul-keys-2 c = search needs
+
+array-write-keys-2 : tie.Need-array-write-keys-2 Inv-loop μ-loop Inv-loop2 μ-loop2 Inv-loop3 μ-loop3
+array-write-keys-2 c = search needs
+
+sub-left : tie.Need-sub-left Inv-loop μ-loop Inv-loop2 μ-loop2 Inv-loop3 μ-loop3
+sub-left c =
+    let d = c .before .before .before .before .before .before .before .before in
+    omega (arith, one-is-left (d .before .loop2 .inv) noSlot (d .loop2-test .taken))
+
+least-requires : tie.Need-least-requires Inv-loop μ-loop Inv-loop2 μ-loop2 Inv-loop3 μ-loop3
+least-requires c κs =
+    let l = c .before .before .before .before .before .before .before .before .before .before .before .loop2 in
+    (length-set (l .keys) (l .place) 0 ∙ l .inv .as-many, omega arith)
 
 loop2-less : tie.Need-loop2-less Inv-loop μ-loop Inv-loop2 μ-loop2 Inv-loop3 μ-loop3
 loop2-less c =
-    let d = c .before .before .before .before .before .before .before .before .before .before in
-    omega (arith, next-counts (d .before .loop2 .inv) noSlot (d .loop2-test .taken))
+    let d = c .before .before .before .before .before .before .before .before .before .before .before in
+    omega (arith, one-is-left (d .before .loop2 .inv) noSlot (d .loop2-test .taken))
 
 loop2-again : tie.Need-loop2-again Inv-loop μ-loop Inv-loop2 μ-loop2 Inv-loop3 μ-loop3
 loop2-again c =
-    let d = c .before .before .before .before .before .before .before .before .before .before in
-    let bytes = c .before .before .before .before .before .before .before .all-bytes .ensures in
-    let write = c .before .before .before .before .before .write-record .ensures in
-    delivering-one-more (d .before .loop2 .inv) noSlot (d .loop2-test .taken) _ bytes _ _ _ _ write (c .before .before .wide32 .ensures) (c .least2 .ensures)
+    let d = c .before .before .before .before .before .before .before .before .before .before .before in
+    let bytes = c .before .before .before .before .before .before .before .before .all-bytes .ensures in
+    let write = c .before .before .before .before .before .before .write-record .ensures in
+    let stream = c .before .before .before .wide32 .ensures .0 in
+    delivering-one-more (d .before .loop2 .inv) noSlot (d .loop2-test .taken) _ bytes _ _ _ _ write stream (c .least .ensures)
+
+loop2-less-2 : tie.Need-loop2-less-2 Inv-loop μ-loop Inv-loop2 μ-loop2 Inv-loop3 μ-loop3
+loop2-less-2 c =
+    let d = c .before .before .before .before .before .before .before .before .before in
+    omega (arith, one-is-left (d .before .loop2 .inv) noSlot (d .loop2-test .taken))
+
+loop2-again-2 : tie.Need-loop2-again-2 Inv-loop μ-loop Inv-loop2 μ-loop2 Inv-loop3 μ-loop3
+loop2-again-2 c =
+    let d = c .before .before .before .before .before .before .before .before .before in
+    let bytes = c .before .before .before .before .before .before .all-bytes .ensures in
+    let write = c .before .before .before .before .write-record .ensures in
+    let stream = c .before .wide32 .ensures .0 in
+    let none = none-is-found (d .before .loop2 .inv) noSlot (d .loop2-test .taken) _ stream (omega arith) in
+    delivering-one-more (d .before .loop2 .inv) noSlot (d .loop2-test .taken) _ bytes _ _ _ _ write stream none
 
 -- ── lapsing ──
 loop3-holds : tie.Need-loop3-holds Inv-loop μ-loop Inv-loop2 μ-loop2 Inv-loop3 μ-loop3
-loop3-holds c = lapsing-at-first rolled _ _ (c .before .before .before .before .before .before .loop .inv .many)
+loop3-holds c = lapsing-at-first rolled _ _ (c .before .before .before .before .loop .inv .many)
 
 sub-j : tie.Need-sub-j Inv-loop μ-loop Inv-loop2 μ-loop2 Inv-loop3 μ-loop3
 sub-j c = search needs
+
+array-read-if8 : tie.Need-array-read-if8 Inv-loop μ-loop Inv-loop2 μ-loop2 Inv-loop3 μ-loop3
+array-read-if8 c = search needs
 
 mul-slot-3 : tie.Need-mul-slot-3 Inv-loop μ-loop Inv-loop2 μ-loop2 Inv-loop3 μ-loop3
 mul-slot-3 c = search needs
@@ -206,17 +265,11 @@ mul-slot-3 c = search needs
 element-copy-out-slot-3 : tie.Need-element-copy-out-slot-3 Inv-loop μ-loop Inv-loop2 μ-loop2 Inv-loop3 μ-loop3
 element-copy-out-slot-3 c = search needs
 
-age-requires-2 : tie.Need-age-requires-2 Inv-loop μ-loop Inv-loop2 μ-loop2 Inv-loop3 μ-loop3
-age-requires-2 c κs = search needs
+stirred-requires : tie.Need-stirred-requires Inv-loop μ-loop Inv-loop2 μ-loop2 Inv-loop3 μ-loop3
+stirred-requires c κs = search needs
 
-stirs-requires-2 : tie.Need-stirs-requires-2 Inv-loop μ-loop Inv-loop2 μ-loop2 Inv-loop3 μ-loop3
-stirs-requires-2 c κs = search needs
-
-lapsed-requires : tie.Need-lapsed-requires Inv-loop μ-loop Inv-loop2 μ-loop2 Inv-loop3 μ-loop3
-lapsed-requires c κs = search needs
-
-mul-t62 : tie.Need-mul-t62 Inv-loop μ-loop Inv-loop2 μ-loop2 Inv-loop3 μ-loop3
-mul-t62 c = search needs
+mul-t65 : tie.Need-mul-t65 Inv-loop μ-loop Inv-loop2 μ-loop2 Inv-loop3 μ-loop3
+mul-t65 c = search needs
 
 element-set-from-self : tie.Need-element-set-from-self Inv-loop μ-loop Inv-loop2 μ-loop2 Inv-loop3 μ-loop3
 element-set-from-self c = search needs
@@ -226,24 +279,18 @@ loop3-less c = search needs
 
 loop3-again : tie.Need-loop3-again Inv-loop μ-loop Inv-loop2 μ-loop2 Inv-loop3 μ-loop3
 loop3-again c =
-    let l = c .before .before .before .before .before .before .before .before .loop3 .inv in
-    lapsing-one-more l _ noSlot (omega arith) _ (c .before .before .before .age2 .ensures) _ (c .lapsed .ensures)
+    let a = c .before .before .before .before in
+    let stirring = looked-at-all rolled _ (a .before .before .before .before .before .loop .inv) (omega arith) .1 in
+    lapsing-one-more (a .loop3 .inv) _ noSlot (omega arith) _ stirring (c .before .before .if8 .taken) _ (c .stirred .ensures)
 
 loop3-less-2 : tie.Need-loop3-less-2 Inv-loop μ-loop Inv-loop2 μ-loop2 Inv-loop3 μ-loop3
 loop3-less-2 c = search needs
 
 loop3-again-2 : tie.Need-loop3-again-2 Inv-loop μ-loop Inv-loop2 μ-loop2 Inv-loop3 μ-loop3
 loop3-again-2 c =
-    let l = c .before .before .before .before .before .before .before .loop3 .inv in
-    let still = sym (c .before .stirs2 .ensures) ∙ c .if6 .left in
-    lapsing-one-kept l _ noSlot (omega arith) _ (c .before .before .age2 .ensures) still
-
-loop3-less-3 : tie.Need-loop3-less-3 Inv-loop μ-loop Inv-loop2 μ-loop2 Inv-loop3 μ-loop3
-loop3-less-3 c = search needs
-
-loop3-again-3 : tie.Need-loop3-again-3 Inv-loop μ-loop Inv-loop2 μ-loop2 Inv-loop3 μ-loop3
-loop3-again-3 c =
-    lapsing-one-kept (c .before .before .before .before .loop3 .inv) _ noSlot (omega arith) _ refl (unheld-is-still _ _ (c .if5 .left))
+    let a = c .before .before in
+    let stirring = looked-at-all rolled _ (a .before .before .before .before .before .loop .inv) (omega arith) .1 in
+    lapsing-one-kept (a .loop3 .inv) _ noSlot (omega arith) _ stirring (c .if8 .left)
 
 -- ── done ──
 same-length : tie.Need-same-length Inv-loop μ-loop Inv-loop2 μ-loop2 Inv-loop3 μ-loop3
@@ -253,7 +300,7 @@ returns-3 : tie.Need-returns-3 Inv-loop μ-loop Inv-loop2 μ-loop2 Inv-loop3 μ-
 returns-3 c =
     let node = all-lapsed (c .before .loop3 .inv) (omega arith) in
     let records = all-delivered (c .before .before .before .loop2 .inv) (c .before .before .loop2-test .left) in
-    let counter = c .before .before .before .before .before .before .before .before .before .next .ensures in
+    let counter = c .before .before .before .before .before .before .before .next .ensures in
     exact-and-unbounded _ _ _ _ (tick-done rolled _ _ (omega arith) _ counter _ _ _ node records)
 
 pub tick-spec : {M : Type 1} → statement M
@@ -280,14 +327,20 @@ tick-spec =
     key-requires
     mul-keys
     array-write-keys
+    array-write-stirring
+    add-left
+    is-before-requires
     loop-less
     loop-again
     loop-less-2
     loop-again-2
     loop-less-3
     loop-again-3
+    loop-less-4
+    loop-again-4
+    loop-less-5
+    loop-again-5
     returns-2
-    least-requires
     loop2-holds
     mul-slot-2
     element-copy-out-slot-2
@@ -299,23 +352,25 @@ tick-spec =
     add-at
     wide32-requires
     add-from
-    least-requires-2
+    mul-keys-2
+    array-write-keys-2
+    sub-left
+    least-requires
     loop2-less
     loop2-again
+    loop2-less-2
+    loop2-again-2
     loop3-holds
     sub-j
+    array-read-if8
     mul-slot-3
     element-copy-out-slot-3
-    age-requires-2
-    stirs-requires-2
-    lapsed-requires
-    mul-t62
+    stirred-requires
+    mul-t65
     element-set-from-self
     loop3-less
     loop3-again
     loop3-less-2
     loop3-again-2
-    loop3-less-3
-    loop3-again-3
     same-length
     returns-3)
