@@ -1,28 +1,41 @@
 /*
- * Kosmydore for the modules' C firmware: bus identifiers, the settings of a stream, and the length
- * of a delivered record.
+ * Kosmydore for the modules' C firmware: bus identifiers, the settings of a stream, the length of a
+ * delivered record, and the node itself.
  *
- * Every function takes and gives plain 32-bit numbers, is defined for every value of each of them,
- * keeps nothing between calls, and touches no memory of the caller. A value is given in two calls:
- * one answers the reply, the other the value, which is 0 unless the reply is KOSMYDORE_DONE.
- * Nothing is cut to a smaller width first: a role of 256 is refused, and not taken for 0.
+ * The functions on plain 32-bit numbers are defined for every value of each of them, keep nothing
+ * between calls, and touch no memory of the caller. A value is given in two calls: one answers the
+ * reply, the other the value, which is 0 unless the reply is KOSMYDORE_DONE. Nothing is cut to a
+ * smaller width first: a role of 256 is refused, and not taken for 0.
+ *
+ * The node's calls take the whole node and give it back in their answer.
  *
  * The functions are in the static library that `rt staticlib firmware` writes.
  */
 #ifndef KOSMYDORE_H
 #define KOSMYDORE_H
 
+#include <stdbool.h>
+#include <stddef.h>
 #include <stdint.h>
 
 #ifdef __cplusplus
 extern "C" {
 #endif
 
-/* The replies that these functions give. */
+/* The replies; docs/INTEGRATION.md says what to do with each. */
 #define KOSMYDORE_DONE UINT32_C(0)
 #define KOSMYDORE_BAD_SETTINGS UINT32_C(1)
+#define KOSMYDORE_TABLE_FULL UINT32_C(2)
+#define KOSMYDORE_TAKEN UINT32_C(3)
 #define KOSMYDORE_BAD_FRAME UINT32_C(4)
+#define KOSMYDORE_NOT_MINE UINT32_C(5)
+#define KOSMYDORE_MISFIT UINT32_C(6)
+#define KOSMYDORE_CLASH UINT32_C(7)
+#define KOSMYDORE_BUSY UINT32_C(8)
+#define KOSMYDORE_NOT_SENDER UINT32_C(9)
 #define KOSMYDORE_BAD_LENGTH UINT32_C(10)
+#define KOSMYDORE_SHORT_OUTPUT UINT32_C(11)
+#define KOSMYDORE_NOTHING UINT32_C(12)
 
 /* The highest stream number, bus identifier, code and payload length. */
 #define KOSMYDORE_MAX_STREAM UINT32_C(134217727)
@@ -83,6 +96,93 @@ uint32_t kosmydore_record_length_reply(uint32_t payload_length);
  * KOSMYDORE_DONE; 0 otherwise.
  */
 uint32_t kosmydore_record_length(uint32_t payload_length);
+
+/*
+ * The node. Its fields are no one's business but the calls': begin with kosmydore_fresh, and hand on
+ * what the last call answered. (A bool that is neither 0 nor 1 is not a node.)
+ */
+struct kosmydore_settings {
+    uint16_t data_reach;
+    uint16_t confirm_delay;
+    uint16_t abort_reach;
+    uint16_t deliver_delay;
+    uint8_t role;
+    uint8_t class_;
+};
+
+struct kosmydore_message {
+    uint16_t stamp;
+    uint8_t length;
+    bool held;
+    bool confirmed;
+    uint8_t bytes[8];
+};
+
+struct kosmydore_pending {
+    bool payload;
+    bool confirmation;
+    bool abort;
+};
+
+struct kosmydore_slot {
+    uint32_t stream;
+    struct kosmydore_settings settings;
+    struct kosmydore_message message;
+    struct kosmydore_pending pending;
+    bool used;
+};
+
+struct kosmydore_node {
+    struct kosmydore_slot slots[32];
+    uint16_t counter;
+};
+
+/* What set up and request answer. */
+struct kosmydore_answered {
+    struct kosmydore_node node;
+    uint32_t reply;
+};
+
+/* What hear and tick answer: how many bytes of the output were written. */
+struct kosmydore_delivered {
+    struct kosmydore_node node;
+    uint32_t reply;
+    size_t written;
+};
+
+/* What next frame answers: the frame's identifier, and the length of its payload in the output. */
+struct kosmydore_given {
+    struct kosmydore_node node;
+    uint32_t reply;
+    uint32_t id;
+    size_t length;
+};
+
+/* Before any call. */
+struct kosmydore_node kosmydore_fresh(void);
+
+/* Gives a stream a slot, with its settings. */
+struct kosmydore_answered kosmydore_set_up(struct kosmydore_node node, uint32_t stream,
+                                           struct kosmydore_settings settings);
+
+/*
+ * Takes in a frame that the controller received; the output holds at least 16 bytes. A payload or an
+ * output is the address of its first byte and its length; the two do not overlap. An address is not
+ * null, also where the length is 0.
+ */
+struct kosmydore_delivered kosmydore_hear(struct kosmydore_node node, uint32_t id, uint8_t dlc,
+                                          const uint8_t *payload, size_t payload_length,
+                                          uint8_t *output, size_t output_length);
+
+/* Moves the counter by one; the output holds at least 512 bytes. */
+struct kosmydore_delivered kosmydore_tick(struct kosmydore_node node, uint8_t *output, size_t output_length);
+
+/* Takes a message to send on one of the node's own streams. */
+struct kosmydore_answered kosmydore_request(struct kosmydore_node node, uint32_t stream,
+                                            const uint8_t *payload, size_t payload_length);
+
+/* Gives out the pending frame with the lowest identifier; the output holds at least 8 bytes. */
+struct kosmydore_given kosmydore_next_frame(struct kosmydore_node node, uint8_t *output, size_t output_length);
 
 #ifdef __cplusplus
 }

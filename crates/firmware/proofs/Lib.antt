@@ -1,3 +1,4 @@
 -- What is shown of the promises of firmware.
+pub mod Answering
 pub mod Refusals
 pub mod Unique

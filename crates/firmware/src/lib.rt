@@ -11,6 +11,8 @@ ghost use Rattle.wire.specs.Identifiers.{join, split};
 ghost use Rattle.wire.specs.Delivered.{recordLength};
 ghost use Rattle.firmware.specs.Boundary.{settingsReply};
 
+pub mod calls;
+
 // The reply to joining a stream and a code.
 #[no_mangle]
 pub extern "C" fn kosmydore_join_reply(stream: u32, code: u32) -> u32

@@ -14,6 +14,8 @@ pub mod setting;
 pub mod slots;
 pub mod ticking;
 
+// Fields in their order, as C has them.
+#[repr(C)]
 pub struct Node {
     pub slots: [Slot; 32],
     pub counter: u16,

@@ -8,6 +8,7 @@ ghost use Rattle.wire.specs.Frames.{maxPayload};
 ghost use Rattle.node.specs.Slots.{empty, padded, payloadOf, same, isFree, isOf, isReceiver, isSender};
 ghost use Rattle.node.specs.Request.{hasPending};
 
+#[repr(C)]
 pub struct Message {
     // The counter when the message was taken up.
     pub stamp: u16,
@@ -76,6 +77,7 @@ fn at_most_eight(n: usize) -> usize
     if n <= 8 { n } else { 8 }
 }
 
+#[repr(C)]
 pub struct Pending {
     // The frame with the payload: data, or the plain frame.
     pub payload: bool,
@@ -98,6 +100,7 @@ impl Pending {
     }
 }
 
+#[repr(C)]
 pub struct Slot {
     pub stream: Stream,
     pub settings: Settings,

@@ -3,6 +3,7 @@ use crate::reply::Reply;
 ghost use mathlib.Core.Path.{_≡_};
 ghost use Rattle.wire.specs.Identifiers.{join, split};
 
+#[repr(C)]
 pub struct Stream(pub u32);
 
 pub struct BusId(pub u32);

@@ -3,6 +3,7 @@ use crate::ids::Stream;
 ghost use mathlib.Core.Path.{_≡_};
 ghost use Rattle.wire.specs.Settings.{legal};
 
+#[repr(C)]
 pub struct Settings {
     // Data reach, in ticks.
     pub rd: u16,

@@ -1,0 +1,125 @@
+// The node's calls for C. The node goes in and comes back by value, and the reply is its number.
+use node::Node;
+use wire::ids::BusId;
+use wire::ids::Stream;
+use wire::settings::Settings;
+ghost use mathlib.Core.Path.{_≡_};
+ghost use Rattle.wire.specs.Delivered.{over};
+ghost use Rattle.node.specs.Nodes.{fresh, answered, delivered, given};
+ghost use Rattle.node.specs.Clock.{rolled};
+ghost use Rattle.node.specs.SetUp.{setUp};
+ghost use Rattle.node.specs.Hear.{hear};
+ghost use Rattle.node.specs.Tick.{tick};
+ghost use Rattle.node.specs.Request.{request};
+ghost use Rattle.node.specs.NextFrame.{nextFrame};
+ghost use Rattle.firmware.specs.Answers.{answeredC, deliveredC, givenC};
+
+// What set up and request answer.
+#[repr(C)]
+pub struct AnsweredC {
+    pub node: Node,
+    pub reply: u32,
+}
+
+// What hear and tick answer.
+#[repr(C)]
+pub struct DeliveredC {
+    pub node: Node,
+    pub reply: u32,
+    pub written: usize,
+}
+
+// What next frame answers.
+#[repr(C)]
+pub struct GivenC {
+    pub node: Node,
+    pub reply: u32,
+    pub id: u32,
+    pub len: usize,
+}
+
+#[no_mangle]
+pub extern "C" fn kosmydore_fresh() -> Node
+    ensures { λ r. ⌜ r ≡ fresh ⌝ }
+{
+    Node::fresh()
+}
+
+#[no_mangle]
+pub extern "C" fn kosmydore_set_up(node: Node, stream: u32, settings: Settings) -> AnsweredC
+    ensures { λ r. ⌜ r ≡ answeredC (answered (setUp (record { 0 = stream }) settings node)) ⌝ }
+{
+    let answer = node.set_up(Stream(stream), settings);
+    let after = answer.node;
+    let reply = answer.reply;
+    AnsweredC {
+        node: after,
+        reply: reply.number(),
+    }
+}
+
+#[no_mangle]
+pub extern "C" fn kosmydore_hear(
+    node: Node,
+    id: u32,
+    dlc: u8,
+    payload: &[u8],
+    out: &mut [u8],
+) -> DeliveredC
+    ensures { λ r. ⌜ (r ≡ deliveredC (delivered (hear (record { 0 = id }) dlc (now (payload .entry)) (now (out .entry)) node)))
+        × (now (out .exit) ≡ over (hear (record { 0 = id }) dlc (now (payload .entry)) (now (out .entry)) node .bytes) (now (out .entry))) ⌝ }
+{
+    let answer = node.hear(BusId(id), dlc, payload, out);
+    let after = answer.node;
+    let reply = answer.reply;
+    DeliveredC {
+        node: after,
+        reply: reply.number(),
+        written: answer.written,
+    }
+}
+
+#[no_mangle]
+pub extern "C" fn kosmydore_tick(node: Node, out: &mut [u8]) -> DeliveredC
+    ensures { λ r. ⌜ (r ≡ deliveredC (delivered (tick rolled (now (out .entry)) node)))
+        × (now (out .exit) ≡ over (tick rolled (now (out .entry)) node .bytes) (now (out .entry))) ⌝ }
+{
+    let answer = node.tick(out);
+    let after = answer.node;
+    let reply = answer.reply;
+    DeliveredC {
+        node: after,
+        reply: reply.number(),
+        written: answer.written,
+    }
+}
+
+#[no_mangle]
+pub extern "C" fn kosmydore_request(node: Node, stream: u32, payload: &[u8]) -> AnsweredC
+    ensures { λ r. ⌜ r ≡ answeredC (answered (request (record { 0 = stream }) (now (payload .entry)) node)) ⌝ }
+{
+    let answer = node.request(Stream(stream), payload);
+    let after = answer.node;
+    let reply = answer.reply;
+    AnsweredC {
+        node: after,
+        reply: reply.number(),
+    }
+}
+
+#[no_mangle]
+pub extern "C" fn kosmydore_next_frame(node: Node, out: &mut [u8]) -> GivenC
+    ensures { λ r. ⌜ (r ≡ givenC (given (nextFrame (now (out .entry)) node)))
+        × (now (out .exit) ≡ over (nextFrame (now (out .entry)) node .bytes) (now (out .entry))) ⌝ }
+{
+    let answer = node.next_frame(out);
+    let after = answer.node;
+    let reply = answer.reply;
+    let id = answer.id;
+    GivenC {
+        node: after,
+        reply: reply.number(),
+        id: id.0,
+        len: answer.len,
+    }
+}
