@@ -4,7 +4,6 @@ use crate::outbox::Frame;
 use crate::outbox::Frames;
 use crate::parts::Module;
 use crate::parts::Said;
-use wire::ids::BusId;
 use wire::ids::Stream;
 use wire::reply::Reply;
 use wire::settings::Settings;
