@@ -36,7 +36,7 @@ use Rattle.bench_in_code.specs.declared.stations.Said.{Said}
 use Rattle.bench_in_code.specs.declared.stations.Turn.{Turn}
 use Rattle.bench_in_code.specs.declared.outbox.Frame as kept-frame
 use Rattle.bench_in_code.specs.declared.outbox.Frames.{Frames}
-use Rattle.bench_in_code.specs.declared.Bench as harness
+use Rattle.bench_in_code.specs.declared.Bench as coded
 use Rattle.bench_in_code.specs.declared.Giving.the-variants.{Out}
 use Rattle.bench.specs.Lists.{nth, at, every}
 use Rattle.bench.specs.SetUp.{Entry, Part, Plan, setUps, isDone, moduleFor, start}
@@ -164,18 +164,18 @@ next-live b i z c is-next =
 
 -- ── the bench ──
 -- the bench in code has eight places, and at each of them what the other has there
-pub record InStep (b : Bench) (k : harness.Bench) : Type 0 where
+pub record InStep (b : Bench) (k : coded.Bench) : Type 0 where
   pub eight : length (k .modules) ≡ 8
   pub modules : (i : ℕ) → Mirrors (moduleAt i b) (moduleIn i k)
 
 -- what the turn at a place says, or leaves
-turn-at : {C : Type 0} (turn : ℕ → Station → Turn) (f : Turn → C) (i : ℕ) (k : harness.Bench)
+turn-at : {C : Type 0} (turn : ℕ → Station → Turn) (f : Turn → C) (i : ℕ) (k : coded.Bench)
     → nth (f (turn i nobody)) i (map f (turnsOf turn k)) ≡ f (turn i (moduleIn i k))
 turn-at turn f i k =
     ap (nth (f (turn i nobody)) i) (map-each f turn 0 (k .modules))
     ∙ nth-each nobody (λ j x. f (turn j x)) i 0 i (k .modules) (zero-add i)
 
-module _ {b : Bench} {k : harness.Bench} (in-step : InStep b k) where
+module _ {b : Bench} {k : coded.Bench} (in-step : InStep b k) where
   live-in-code : (i : ℕ) → isLive i b ≡ true → isLiveIn i k ≡ true
   live-in-code i live = in-step .modules i .live ∙ live
 
@@ -378,7 +378,7 @@ planned-live [] i h = absurd (not-suc-le-zero h)
 planned-live (part ∷ plan) zero h = refl
 planned-live (part ∷ plan) (suc i) h = planned-live plan i (le-of-suc-le-suc h)
 
-module _ (plan : Plan) {k : harness.Bench} (in-step : InStep (start plan) k) (i : ℕ) (inside : i < length plan) (e : Entry) where
+module _ (plan : Plan) {k : coded.Bench} (in-step : InStep (start plan) k) (i : ℕ) (inside : i < length plan) (e : Entry) where
   abbrev c : Call
   c = setUp (e .stream) (e .settings)
 
@@ -437,7 +437,7 @@ abbrev pub planOf : SetUps → Plan → Plan
 planOf [] plan = plan
 planOf (x ∷ xs) plan = planOf xs (withEntry (x .0) (x .1) plan)
 
-abbrev pub afterSetUps : SetUps → harness.Bench → harness.Bench
+abbrev pub afterSetUps : SetUps → coded.Bench → coded.Bench
 afterSetUps [] k = k
 afterSetUps (x ∷ xs) k = afterSetUps xs (code.asked (ltb (x .0) 8) (setUp (x .1 .stream) (x .1 .settings)) (x .0) k .bench)
 
@@ -447,7 +447,7 @@ areThere n xs = every (λ (x : ℕ × Entry). ltb (x .0) n) xs
 pub start-in-step : (n : ℕ) → n ≤ 8 → (xs : SetUps) → T (areThere n xs) → InStep (start (planOf xs (replicate n []))) (afterSetUps xs (benchOf n))
 start-in-step n few xs there = go xs there (replicate n []) (length-replicate n []) (benchOf n) (unset-in-step n few)
   where
-    go : (xs : SetUps) → T (areThere n xs) → (plan : Plan) → length plan ≡ n → (k : harness.Bench) → InStep (start plan) k
+    go : (xs : SetUps) → T (areThere n xs) → (plan : Plan) → length plan ≡ n → (k : coded.Bench) → InStep (start plan) k
         → InStep (start (planOf xs plan)) (afterSetUps xs k)
     go [] there plan e k in-step = in-step
     go (x ∷ xs) there plan e k in-step =
@@ -505,7 +505,7 @@ plan-in-step plan few =
 
 -- ── every history ──
 -- what the bench in code does at an event, and what that leaves
-pub data Does (b : Bench) (k : harness.Bench) : Event → harness.Bench → Type 0 where
+pub data Does (b : Bench) (k : coded.Bench) : Event → coded.Bench → Type 0 where
   by-request : (i : ℕ) (z : Stream) (p : List ℕ) → Does b k (asks i z p) (code.asked (isLiveIn i k) (request z p) i k .bench)
   by-giving : (i : ℕ) (z : Stream) (c : ℕ) (fs : Frames) → isNext i z c b ≡ true → fs .count < capacity
       → Does b k (gives i z c) (givingOf i fs k .bench)
@@ -515,18 +515,18 @@ pub data Does (b : Bench) (k : harness.Bench) : Event → harness.Bench → Type
   by-death : (i : ℕ) → Does b k (dies i) (onModule dead i k)
 
 -- and what a history leaves
-pub data Runs : Bench → harness.Bench → List Event → harness.Bench → Type 0 where
-  no-more : {b : Bench} {k : harness.Bench} → Runs b k [] k
-  then : {b : Bench} {k k′ last : harness.Bench} {e : Event} {h : List Event}
+pub data Runs : Bench → coded.Bench → List Event → coded.Bench → Type 0 where
+  no-more : {b : Bench} {k : coded.Bench} → Runs b k [] k
+  then : {b : Bench} {k k′ last : coded.Bench} {e : Event} {h : List Event}
       → Does b k e k′ → Runs (step b e) k′ h last → Runs b k (e ∷ h) last
 
-pub event-in-step : {b : Bench} {k k′ : harness.Bench} {e : Event} → InStep b k → Does b k e k′ → InStep (step b e) k′
+pub event-in-step : {b : Bench} {k k′ : coded.Bench} {e : Event} → InStep b k → Does b k e k′ → InStep (step b e) k′
 event-in-step s (by-request i z p) = request-in-step s i z p
 event-in-step s (by-giving i z c fs is-next room) = giving-in-step s i z c is-next fs room
 event-in-step s (by-sending z message w to f places so-sent) = sending-in-step s z message w to f places so-sent
 event-in-step s by-tick = tick-in-step s
 event-in-step s (by-death i) = death-in-step s i
 
-pub history-in-step : {b : Bench} {k last : harness.Bench} {h : List Event} → InStep b k → Runs b k h last → InStep (run b h) last
+pub history-in-step : {b : Bench} {k last : coded.Bench} {h : List Event} → InStep b k → Runs b k h last → InStep (run b h) last
 history-in-step s no-more = s
 history-in-step s (then d rest) = history-in-step (event-in-step s d) rest

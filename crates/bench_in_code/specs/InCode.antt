@@ -20,7 +20,7 @@ use Rattle.bench_in_code.specs.declared.stations.Said.{Said}
 use Rattle.bench_in_code.specs.declared.stations.Turn.{Turn}
 use Rattle.bench_in_code.specs.declared.outbox.Frame as kept-frame
 use Rattle.bench_in_code.specs.declared.outbox.Frames.{Frames}
-use Rattle.bench_in_code.specs.declared.Bench as harness
+use Rattle.bench_in_code.specs.declared.Bench as coded
 use Rattle.bench_in_code.specs.declared.Asked.{Asked}
 use Rattle.bench_in_code.specs.declared.Told.{Told}
 use Rattle.bench_in_code.specs.declared.Sent.{Sent}
@@ -93,48 +93,48 @@ withFrame f fs = cond (ltb (fs .count) capacity) (record { all = set (fs .all) (
 
 -- ── the bench ──
 -- so many live modules, at most eight
-abbrev pub benchOf : ℕ → harness.Bench
+abbrev pub benchOf : ℕ → coded.Bench
 benchOf n = record { modules = map (λ (i : ℕ). atStart (ltb i n)) (0 ∷ 1 ∷ 2 ∷ 3 ∷ 4 ∷ 5 ∷ 6 ∷ 7 ∷ []) }
 
-abbrev pub moduleIn : ℕ → harness.Bench → Station
+abbrev pub moduleIn : ℕ → coded.Bench → Station
 moduleIn i b = nth nobody i (b .modules)
 
-abbrev pub isLiveIn : ℕ → harness.Bench → Bool
+abbrev pub isLiveIn : ℕ → coded.Bench → Bool
 isLiveIn i b = moduleIn i b .live
 
 -- a call on a module's node
-abbrev pub callIn : Call → ℕ → harness.Bench → Outcome
+abbrev pub callIn : Call → ℕ → coded.Bench → Outcome
 callIn c i b = call rolled c (shown (moduleIn i b))
 
-abbrev pub onModule : (Module → Module) → ℕ → harness.Bench → harness.Bench
+abbrev pub onModule : (Module → Module) → ℕ → coded.Bench → coded.Bench
 onModule change i b = record { modules = at (λ (m : Station). kept (change (shown m))) i (b .modules) }
 
-abbrev pub afterCall : Call → ℕ → harness.Bench → harness.Bench
+abbrev pub afterCall : Call → ℕ → coded.Bench → coded.Bench
 afterCall c i b = onModule (withNode (callIn c i b .node)) i b
 
 -- what a module answers that is there; else nobody answers, and nothing changes
-unfoldable pub asked : (there : Bool) → Call → ℕ → harness.Bench → Asked
+unfoldable pub asked : (there : Bool) → Call → ℕ → coded.Bench → Asked
 asked there c i b =
     cond there (record { bench = afterCall c i b; there = true; reply = callIn c i b .reply })
     (record { bench = b; there = false; reply = Done })
 
 -- an event that may reach every module
-abbrev pub turnsOf : (ℕ → Station → Turn) → harness.Bench → List Turn
+abbrev pub turnsOf : (ℕ → Station → Turn) → coded.Bench → List Turn
 turnsOf turn b = each turn 0 (b .modules)
 
-abbrev pub afterTurns : List Turn → harness.Bench
+abbrev pub afterTurns : List Turn → coded.Bench
 afterTurns ts = record { modules = map (λ (t : Turn). t .after) ts }
 
 abbrev pub saidIn : List Turn → List Said
 saidIn ts = map (λ (t : Turn). t .said) ts
 
-unfoldable pub tickOf : harness.Bench → Told
+unfoldable pub tickOf : coded.Bench → Told
 tickOf b =
     let ts = turnsOf (λ i m. tickTurn m) b in
     record { bench = afterTurns ts; said = saidIn ts }
 
 -- a sending reaches the live modules of those named, other than the frame's owner
-unfoldable pub sendingOf : kept-frame.Frame → (to : List Bool) → harness.Bench → Sent
+unfoldable pub sendingOf : kept-frame.Frame → (to : List Bool) → coded.Bench → Sent
 sendingOf f to b =
     let ts = turnsOf (λ i m. hearTurn (getD to i false) (eqb i (f .owner)) f m) b in
     cond (isLiveIn (f .owner) b) (record { bench = afterTurns ts; sent = true; said = saidIn ts })
@@ -147,10 +147,10 @@ next = nextFrame (replicate maxPayload 0)
 abbrev pub givenBy : ℕ → Outcome → kept-frame.Frame
 givenBy i o = record { owner = i; id = o .id; len = length (o .bytes); bytes = over (o .bytes) (replicate maxPayload 0) }
 
-abbrev pub notGiven : Giving → Frames → harness.Bench → Gave
+abbrev pub notGiven : Giving → Frames → coded.Bench → Gave
 notGiven why fs b = record { bench = b; frames = fs; giving = why; frame = noFrame }
 
-unfoldable pub givingOf : ℕ → Frames → harness.Bench → Gave
+unfoldable pub givingOf : ℕ → Frames → coded.Bench → Gave
 givingOf i fs b =
     let o = callIn next i b in
     cond (not (isLiveIn i b)) (notGiven Dead fs b)
