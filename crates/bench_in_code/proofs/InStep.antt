@@ -28,8 +28,8 @@ use Rattle.node.specs.NextFrame as NextFrame
 use Rattle.node.specs.Calls.{Call, setUp, hear, tick, request, outcome, afterFrom, roll, rollOutcome}
 use Rattle.node.specs.Reachable.{Kept}
 use Rattle.node.proofs.Choices.{contrary}
-use Rattle.node.proofs.Kept.{kept-fresh, kept-by}
-use Rattle.node.proofs.Rolling.{rolls}
+use Rattle.node.proofs.kept.EveryCall.{kept-fresh, kept-by}
+use Rattle.node.proofs.rollover.SameAnswers.{rolls}
 use Rattle.one_stream.proofs.Truth.{and-l, and-r, both, is-true, so}
 use Rattle.bench_in_code.specs.declared.stations.Station.{Station}
 use Rattle.bench_in_code.specs.declared.stations.Said.{Said}

@@ -26,7 +26,7 @@ use Rattle.node.specs.Tick as ticking
 use Rattle.node.specs.Request as requesting
 use Rattle.node.specs.NextFrame as giving
 use Rattle.node.specs.Calls.{Call, setUp, hear, tick, request, nextFrame, outcome, afterFrom, after, Answer, answerOf, answersFrom, answers}
-use Rattle.node.proofs.Rolling.{same-answers}
+use Rattle.node.proofs.rollover.SameAnswers.{same-answers}
 use Rattle.module.specs.declared.tally.Tally.{Tally}
 use Rattle.module.specs.Tallies.{countOf, talliedAll, occurrences, capped}
 use Rattle.module.specs.Histories.{Module, freshModule, moduleStep, moduleAfterFrom, moduleAfter, repliesIn}

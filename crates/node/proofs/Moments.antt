@@ -17,14 +17,14 @@ use Rattle.wire.specs.Settings.{legal}
 use Rattle.node.specs.declared.Node.{Node}
 use Rattle.node.specs.Slots.{empty, sameBytes, first, onFirst, some}
 use Rattle.node.specs.Nodes.{fresh, slotOf, Outcome}
-use Rattle.node.specs.Clock.{Clock, turn, unbounded, rolled}
+use Rattle.node.specs.Clock.{Clock, period, unbounded, rolled}
 use Rattle.node.specs.SetUp.{slotFor, setUp}
 use Rattle.node.specs.Hear.{hear, hearAt, heardBy, deliveredAtOnce, hearRoom}
 use Rattle.node.specs.Tick.{tick, late, due, holdOver, lapsed, dueSlots, recordsFrom, tickRoom}
 use Rattle.node.specs.Request.{request, requested}
 use Rattle.node.specs.NextFrame.{nextFrame, pendingIn, pendingIds, lowest, give, givenOut, payloadFor, nextRoom}
 use Rattle.node.specs.Calls.{Call, outcome, afterFrom, after, roll, rollOutcome}
-use Rattle.node.proofs.Rolling.{slot-rolls, rolled-node, unrolled}
+use Rattle.node.proofs.rollover.SameAnswers.{slot-rolls, rolled-node, unrolled}
 
 -- ── stream 5, 2M, Rd 2, dc 3, Ra 2, dd 6 ──
 abbrev pub five : Stream
@@ -91,7 +91,7 @@ callsTo (sending n) = Call.setUp five (settings send 6) ∷ ticks n
 abbrev pub shownBy : Outcome → Shown
 shownBy o =
     let x = slotOf five (o .node) in
-    node (o .reply) (o .id .0) (o .bytes) (o .node .counter % turn) (x .message .held) (x .pending .abort)
+    node (o .reply) (o .id .0) (o .bytes) (o .node .counter % period) (x .message .held) (x .pending .abort)
 
 -- calls are made from the fresh node
 abbrev pub shows : Clock → Trial → Shown
@@ -202,7 +202,7 @@ moments-hold = each-same (shows rolled) shortly shows-shortly moments ∙ comput
 
 shown-rolls : (o : Outcome) → shownBy (rollOutcome o) ≡ shownBy o
 shown-rolls o =
-    let again : o .node .counter % turn % turn ≡ o .node .counter % turn = omega arith in
+    let again : o .node .counter % period % period ≡ o .node .counter % period = omega arith in
     rw (slot-rolls five (o .node), again)
 
 same-shown : (t : Trial) → shows unbounded t ≡ shows rolled t

@@ -13,7 +13,7 @@ use Rattle.wire.specs.Settings as wire
 use Rattle.node.specs.Slots.{isSender}
 use Rattle.node.specs.Request.{busy}
 use Rattle.node.specs.Reachable.{Kept}
-use Rattle.node.proofs.Streams.{Kind, kindOf}
+use Rattle.node.proofs.slots.Streams.{Kind, kindOf}
 use Rattle.one_stream.proofs.Truth.{and-l, and-r}
 use Rattle.bench.specs.Bench.{Bench, moduleAt, isLive, slotAt, now}
 use Rattle.bench.specs.SetUp.{Plan, isDone, proper, start}

@@ -23,7 +23,7 @@ use Rattle.node.specs.Nodes.{slotOf, given}
 use Rattle.node.specs.Reachable.{Kept}
 use Rattle.node.specs.Slots.{isReceiver, isSender, payloadOf}
 use Rattle.node.specs.Tick.{late, due, holdOver, lapsed}
-use Rattle.node.proofs.Streams.{Kind}
+use Rattle.node.proofs.slots.Streams.{Kind}
 use Rattle.one_stream.proofs.Chain.{Works, Inv, act-keeps}
 use Rattle.one_stream.proofs.Truth.{cond-elim, cond-false, and-l, and-r, both, is-true, is-false, so, not-so}
 use Rattle.one_stream.proofs.TwoMEnd.{twoMWorks}

@@ -23,7 +23,7 @@ use Rattle.node.specs.Reachable.{Kept}
 use Rattle.node.specs.SetUp.{slotFor}
 use Rattle.node.specs.Slots.{isReceiver, isSender, isFree, isOf, empty, first, onFirst, some}
 use Rattle.node.proofs.Choices.{neither}
-use Rattle.node.proofs.Kept.{kept}
+use Rattle.node.proofs.kept.EveryCall.{kept}
 use Rattle.one_stream.proofs.Truth.{cond-elim, and-l, and-r, both, or-l, or-r, decide, is-true, is-false, so}
 use Rattle.bench.specs.Bench.{Bench, Ledger, noBook, noModule, moduleAt, slotAt, booksIn, booksOf, frameOf, sameStream, sent}
 use Rattle.bench.specs.Events.{only}

@@ -23,7 +23,7 @@ use Rattle.node.specs.Reachable.{Kept}
 use Rattle.node.specs.Request.{requested}
 use Rattle.node.specs.Slots.{isReceiver, isSender}
 use Rattle.node.proofs.Choices.{into}
-use Rattle.node.proofs.Streams.{Kind, kindOf}
+use Rattle.node.proofs.slots.Streams.{Kind, kindOf}
 use Rattle.one_stream.proofs.Truth.{cond-elim, and-r}
 use Rattle.bench.specs.Bench.{Module, Bench, Book, Frame, Sendings, never, sent, pendingSince, noBook, moduleAt, isLive, slotAt, now}
 use Rattle.bench.specs.Bench.{booksOf, frameOf, ownerOf, Which, thePayload, theConfirmation, theAbort}

@@ -24,9 +24,9 @@ use Rattle.node.specs.NextFrame.{nextFrame, give, givenOut, lowest, pendingIds,
 use Rattle.node.specs.Tick.{late, due, holdOver, lapsed, tick, tickRoom, ageOf, tickSlot, dueSlots}
 use Rattle.node.specs.Calls.{afterFrom}
 use Rattle.node.proofs.Choices.{unless, contrary, refuted}
-use Rattle.node.proofs.Table.{all-map, all-replicate, all-on-first}
-use Rattle.node.proofs.Lapsing.{due-tells}
-use Rattle.node.proofs.KeptSlots.{not-sender}
+use Rattle.node.proofs.slots.Table.{all-map, all-replicate, all-on-first}
+use Rattle.node.proofs.tick.Tests.{due-tells}
+use Rattle.node.proofs.kept.EachSlot.{not-sender}
 use Rattle.bench.specs.SetUp.{Part, setUps}
 
 -- ── one slot ──

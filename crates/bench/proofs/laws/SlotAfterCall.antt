@@ -29,12 +29,12 @@ use Rattle.node.specs.Reachable.{KeptSlot, All, Distinct, Kept}
 use Rattle.node.specs.Request.{busy, requested}
 use Rattle.node.specs.Slots.{empty, payloadOf, isOf, isReceiver, isSender, first, onFirst, some}
 use Rattle.node.specs.Tick.{due, tickSlot, dueSlots}
-use Rattle.node.proofs.Ascending.{Before, Ascends, due-ascend, only-due, due-of-stream}
-use Rattle.node.proofs.KeptSlots.{kept-empty}
-use Rattle.node.proofs.Lapsing.{Due, due-tells}
-use Rattle.node.proofs.Lowest.{lowest-is-one}
-use Rattle.node.proofs.Streams.{Kind, KeepsKind, heard-keeps, requested-keeps, given-out-keeps, slot-of-changed, slot-of-ticked}
-use Rattle.node.proofs.Table.{all-weaken, all-first}
+use Rattle.node.proofs.tick.Ascending.{Before, Ascends, due-ascend, only-due, due-of-stream}
+use Rattle.node.proofs.kept.EachSlot.{kept-empty}
+use Rattle.node.proofs.tick.Tests.{Due, due-tells}
+use Rattle.node.proofs.next_frame.Lowest.{lowest-is-one}
+use Rattle.node.proofs.slots.Streams.{Kind, KeepsKind, heard-keeps, requested-keeps, given-out-keeps, slot-of-changed, slot-of-ticked}
+use Rattle.node.proofs.slots.Table.{all-weaken, all-first}
 use Rattle.one_stream.proofs.Truth.{cond-elim, cond-true, cond-false, and-l, and-r, both, is-true, is-false, so, not-so}
 use Rattle.bench.specs.Bench.{Delivery, sameStream, now}
 use Rattle.bench.specs.Events.{lent, onto, deliveries}

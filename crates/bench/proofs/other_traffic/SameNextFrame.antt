@@ -20,7 +20,7 @@ use Rattle.node.specs.Nodes.{slotOf}
 use Rattle.node.specs.Reachable.{Kept}
 use Rattle.node.specs.NextFrame as NextFrame
 use Rattle.node.specs.NextFrame.{one, idsFrom, payloadCode, pendingCodes, pendingIn, pendingIds, lowest, payloadFor, give}
-use Rattle.node.proofs.Lowest.{lowest-append}
+use Rattle.node.proofs.next_frame.Lowest.{lowest-append}
 use Rattle.one_stream.proofs.Truth.{cond-elim, and-r, both, is-true, so}
 use Rattle.bench.specs.SetUp.{isDone}
 use Rattle.bench.proofs.laws.SlotAfterCall.{Same, slot-kept, giving, IsPending, thePayload, theConfirmation, theAbort}

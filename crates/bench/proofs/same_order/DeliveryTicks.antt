@@ -17,8 +17,8 @@ use Rattle.node.specs.Nodes.{slotOf}
 use Rattle.node.specs.Tick.{due}
 use Rattle.node.specs.Reachable.{Kept}
 use Rattle.node.proofs.Choices.{either-way}
-use Rattle.node.proofs.Streams.{Kind}
-use Rattle.node.proofs.Lapsing.{due-tells}
+use Rattle.node.proofs.slots.Streams.{Kind}
+use Rattle.node.proofs.tick.Tests.{due-tells}
 use Rattle.one_stream.proofs.Truth.{cond-elim, cond-false, and-l, and-r, both, is-true, so, decide}
 use Rattle.one_stream.proofs.TwoMWhy.{SlotOk, untouched, gaveAbort, heardAbort, delivered}
 use Rattle.one_stream.proofs.TwoMEnd.{slots-of}

@@ -22,8 +22,8 @@ use Rattle.node.specs.Nodes.{slotOf}
 use Rattle.node.specs.Hear.{clashes, deliveredAtOnce}
 use Rattle.node.specs.Tick.{dueSlots}
 use Rattle.node.specs.Reachable.{All, Kept}
-use Rattle.node.proofs.Streams.{Kind}
-use Rattle.node.proofs.Ascending.{Ascends, due-ascend}
+use Rattle.node.proofs.slots.Streams.{Kind}
+use Rattle.node.proofs.tick.Ascending.{Ascends, due-ascend}
 use Rattle.one_stream.proofs.Truth.{cond-elim, both, is-true, so}
 use Rattle.bench.specs.Bench.{Delivery, Frame, Module, Bench, moduleAt, bookOf, frameOf, ownerOf}
 use Rattle.bench.specs.SetUp.{Plan, proper, start}

@@ -12,7 +12,7 @@ use Rattle.wire.specs.declared.ids.Stream.{Stream}
 use Rattle.wire.specs.Settings.{isPlain}
 use Rattle.node.specs.Clock.{unbounded}
 use Rattle.node.specs.Slots.{isReceiver}
-use Rattle.node.proofs.KeptSlots.{two-not-plain}
+use Rattle.node.proofs.kept.EachSlot.{two-not-plain}
 use Rattle.node.proofs.Choices.{either-way}
 use Rattle.one_stream.proofs.Truth.{and-l, and-r, is-true, not-so}
 use Rattle.bench.specs.Lists.{nth}

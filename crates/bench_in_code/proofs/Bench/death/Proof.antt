@@ -2,7 +2,7 @@
 use native.Mathlib.Omega.{arith}
 use mathlib.Core.Path.{_≡_}
 use lib.ListN.{length}
-use Rattle.node.proofs.Finding.{length-of-mapped}
+use Rattle.node.proofs.slots.Finding.{length-of-mapped}
 use Rattle.bench.specs.Events.{dead}
 use borrow.Author.Needs.{needs}
 use Rattle.bench_in_code.proofs.CallsInCode.{past-stays, stored}

@@ -2,7 +2,7 @@
 use native.Mathlib.Omega.{arith}
 use mathlib.Core.Path.{_≡_}
 use lib.ListN.{length}
-use Rattle.node.proofs.Finding.{length-of-mapped}
+use Rattle.node.proofs.slots.Finding.{length-of-mapped}
 use borrow.Author.Needs.{needs}
 use Rattle.bench_in_code.proofs.CallsInCode.{past-is-dead, read-live}
 use Rattle.bench_in_code.proofs.Bench.is_live.Statement.{statement}

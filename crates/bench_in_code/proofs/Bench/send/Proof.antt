@@ -3,7 +3,7 @@ use borrow.Author.Needs.{needs}
 use native.Mathlib.Omega.{arith}
 use mathlib.Core.Path.{_≡_, sym, _∙_}
 use lib.ListN.{length}
-use Rattle.node.proofs.Finding.{length-of-mapped}
+use Rattle.node.proofs.slots.Finding.{length-of-mapped}
 use borrow.Author.Tests.{not-true, not-false}
 use Rattle.bench_in_code.proofs.LoopsOverStations.{Turned, none-turned, one-turned, heardAt, all-heard, none-heard}
 use Rattle.bench_in_code.proofs.Bench.send.Statement.{statement}

@@ -3,7 +3,7 @@ use native.Mathlib.Omega.{arith}
 use mathlib.Core.Path.{_≡_}
 use lib.ListN.{length}
 use borrow.Author.Tests.{lt-ltb, le-ltb}
-use Rattle.node.proofs.Finding.{length-of-mapped}
+use Rattle.node.proofs.slots.Finding.{length-of-mapped}
 use Rattle.node.specs.Calls.{setUp}
 use borrow.Author.Needs.{needs}
 use Rattle.bench_in_code.proofs.CallsInCode.{nobody-answers, answers-there}

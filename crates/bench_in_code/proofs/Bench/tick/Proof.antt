@@ -3,7 +3,7 @@ use borrow.Author.Needs.{needs}
 use native.Mathlib.Omega.{arith}
 use mathlib.Core.Path.{_≡_}
 use lib.ListN.{length}
-use Rattle.node.proofs.Finding.{length-of-mapped}
+use Rattle.node.proofs.slots.Finding.{length-of-mapped}
 use Rattle.bench_in_code.specs.InCode.{tickTurn}
 use Rattle.bench_in_code.proofs.LoopsOverStations.{all-ticked, Turned, none-turned, one-turned}
 use Rattle.bench_in_code.proofs.Bench.tick.Statement.{statement}

@@ -2,7 +2,7 @@
 use native.Mathlib.Omega.{arith}
 use mathlib.Core.Path.{_≡_, sym}
 use lib.ListN.{length}
-use Rattle.node.proofs.Finding.{length-of-mapped}
+use Rattle.node.proofs.slots.Finding.{length-of-mapped}
 use Rattle.bench_in_code.specs.InCode.{noFrame}
 use borrow.Author.Needs.{needs}
 use Rattle.bench.proofs.laws.ListPlaces.{nth-past, nth-inside}

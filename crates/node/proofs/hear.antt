@@ -1,0 +1,2 @@
+-- Laws that hearing a frame rests on.
+pub mod Ways

@@ -1,0 +1,3 @@
+-- Laws that the next frame rests on.
+pub mod Ways
+pub mod Lowest

@@ -1,0 +1,2 @@
+-- Laws that a request rests on.
+pub mod Ways

@@ -1,0 +1,2 @@
+-- Laws that setting up a stream rests on.
+pub mod Ways
