@@ -10,7 +10,6 @@ use lib.Dec.{T, eqb, eqb→eq, leb→le}
 use Rattle.one_stream.proofs.TwoMWhy.{Cause, Slots}
 use Rattle.wire.specs.declared.ids.Stream.{Stream}
 use Rattle.node.specs.Slots.{isReceiver}
-use Rattle.node.proofs.Moments.{none}
 use Rattle.one_stream.proofs.Books.{Books}
 use Rattle.one_stream.proofs.Chain.{Over, NotDelivered, hold-over}
 use Rattle.one_stream.proofs.Truth.{cond-elim, cond-true, and-l, and-r}

@@ -23,7 +23,6 @@ use Rattle.node.specs.Reachable.{KeptMessage, Kept}
 use Rattle.node.specs.Slots.{isReceiver, payloadOf, same, sameBytes, some}
 use Rattle.node.specs.Tick.{late, due, holdOver, lapsed, tickSlot}
 use Rattle.node.proofs.kept.EachSlot.{not-sender}
-use Rattle.node.proofs.Moments.{receiving}
 use Rattle.one_stream.proofs.Truth.{cond-true, cond-false, and-r, is-true, is-false, so, not-so}
 use Rattle.bench.specs.Bench.{Module, Frame, Delivery, Sendings, never, sent, now}
 use Rattle.bench.specs.Events.{onto, deliveries}

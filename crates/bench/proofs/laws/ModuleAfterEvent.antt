@@ -19,7 +19,6 @@ use Rattle.node.specs.Nodes.{slotOf}
 use Rattle.node.specs.Reachable.{Kept}
 use Rattle.node.proofs.Choices.{either-way}
 use Rattle.node.proofs.kept.EveryCall.{kept-by}
-use Rattle.node.proofs.Moments.{node}
 use Rattle.node.proofs.slots.Streams.{kindOf, heard-keeps, lapsed-keeps, requested-keeps, given-out-keeps}
 use Rattle.one_stream.proofs.Truth.{cond-elim, cond-false, and-l, and-r}
 use Rattle.bench.specs.Bench.{Module, Bench, Frame, noModule, moduleAt, isLive, counts, now, bookOf, frameOf, ownerOf, Delivery}
