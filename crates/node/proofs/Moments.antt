@@ -2,13 +2,8 @@
 use Prim.Native.Nat.{ℕ, zero, suc, _+_, _%_}
 use native.Mathlib.Omega.{arith}
 use mathlib.Core.Path.{_≡_, refl, sym, ap, _∙_}
-use mathlib.Core.Bool.{Bool, true, false}
 use mathlib.Core.List.{List, [], _∷_, _++_, map}
 use lib.ListN.{replicate}
-use Rattle.wire.specs.declared.ids.Stream.{Stream}
-use Rattle.wire.specs.declared.settings.Settings.{Settings}
-use Rattle.wire.specs.declared.reply.Reply.{Reply}
-use Rattle.wire.specs.declared.reply.Reply.the-variants.{Done, BadSettings, BadFrame, Busy}
 use Rattle.wire.specs.Identifiers.{split}
 use Rattle.wire.specs.Classes.{carries}
 use Rattle.wire.specs.Delivered.{recordOf}
@@ -16,13 +11,13 @@ use Rattle.wire.specs.Frames.{badFrame}
 use Rattle.wire.specs.Settings.{legal}
 use Rattle.node.specs.declared.Node.{Node}
 use Rattle.node.specs.Slots.{empty, sameBytes, first, onFirst, some}
-use Rattle.node.specs.Nodes.{fresh, slotOf, Outcome}
+use Rattle.node.specs.Nodes.{fresh, Outcome}
 use Rattle.node.specs.Clock.{Clock, period, unbounded, rolled}
 use Rattle.node.specs.SetUp.{slotFor, setUp}
-use Rattle.node.specs.Hear.{hear, hearAt, heardBy, deliveredAtOnce, hearRoom}
-use Rattle.node.specs.Tick.{tick, late, due, holdOver, lapsed, dueSlots, recordsFrom, tickRoom}
+use Rattle.node.specs.Hear.{hear, hearAt, heardBy, deliveredAtOnce}
+use Rattle.node.specs.Tick.{tick, late, due, holdOver, lapsed, dueSlots, recordsFrom}
 use Rattle.node.specs.Request.{request, requested}
-use Rattle.node.specs.NextFrame.{nextFrame, pendingIn, pendingIds, lowest, give, givenOut, payloadFor, nextRoom}
+use Rattle.node.specs.NextFrame.{nextFrame, pendingIn, pendingIds, lowest, give, givenOut, payloadFor}
 use Rattle.node.specs.Calls.{Call, outcome, afterFrom, after, roll, rollOutcome}
 use Rattle.node.specs.Moments.{five, receive, send, settings, ticks, Start, from-fresh, receiving, sending, Trial, call, splits, Shown, callsTo, shownBy}
 use Rattle.node.specs.Moments.{shows, Row, moments, MomentsHold}

@@ -1,47 +1,37 @@
--- A bench of dummies fails the second half of demand 3 in every history: modules that refuse all frames, or that never deliver. What a
--- module does when it hears a frame and at a tick is a parameter here; crate node's is one choice, and gives back the bench of the rules.
+-- A bench of dummies fails the second half of demand 3 in every history: modules that refuse all frames, or that never deliver.
 use Prim.Native.Nat.{ℕ, zero, suc, _+_}
 use native.Mathlib.Omega.{arith}
 use mathlib.Core.Path.{_≡_, refl, ap, sym, subst, _∙_}
 use mathlib.Core.Bool.{Bool, true, false, not, cond, _&&_}
 use mathlib.Core.List.{List, [], _∷_, map}
 use lib.ListN.{length}
-use lib.Dec.{T, eqb}
+use lib.Dec.{eqb}
 use Rattle.wire.specs.declared.ids.Stream.{Stream}
 use Rattle.node.specs.declared.Node.{Node}
 use Rattle.node.specs.Nodes.{fresh}
 use Rattle.node.specs.Clock.{unbounded}
-use Rattle.node.specs.Calls.{tick, request, nextFrame, outcome}
+use Rattle.node.specs.Calls.{request, nextFrame, outcome}
 use Rattle.one_stream.proofs.Truth.{so}
 use Rattle.bench.specs.Lists.{nth, at, each, keepOnly}
-use Rattle.bench.specs.Bench.{Frame, Delivery, Module, Bench, sameStream, noModule, moduleAt, now, bookOf, frameOf, ownerOf}
+use Rattle.bench.specs.Bench.{Frame, Delivery, Module, Bench, sameStream, noModule, moduleAt, bookOf, frameOf, ownerOf}
 use Rattle.bench.specs.SetUp.{Plan, start}
-use Rattle.bench.specs.Events.{To, Event, asks, gives, sends, ticks, dies, named, isFull, call, lent, withNode, asked, next, dead}
-use Rattle.bench.specs.Events.{heard, atOnce, onto, deliveries, onBooks, onFrame, sentOnce, moved, isAccepted, opened, isNext, gave, step, run}
-use Rattle.bench.specs.Rules.{wasFull, oneOmission, may}
+use Rattle.bench.specs.Events.{Event, asks, gives, sends, ticks, dies, named, lent, withNode, asked, next, dead}
+use Rattle.bench.specs.Events.{isAccepted, opened, isNext, gave, step, run}
+use Rattle.bench.specs.Rules.{wasFull, oneOmission}
 use Rattle.bench.specs.Demands.{Judged, atRequest, atJudgement, Atomic, delivered, liveReceiver}
-use Rattle.bench.proofs.examples.ExampleHistories.{computing, five, three, message, wait, logs}
-use Rattle.bench.proofs.examples.MomentTen.{full-confirmation, full-judged}
+use Rattle.bench.specs.Dummies.{AllIfFullAt, FailsAt, Manner, hearsBy, tickedBy, stepBy, runBy, keepsBy, asNode, AsNodeIsTheRules}
+use Rattle.bench.specs.Dummies.{NeverDelivers, NeverDeliveringFails, RefusesAll, RefusingDeliversNothing, RefusingFails}
+use Rattle.bench.specs.MomentTen.{five, three, message, wait, logs}
+use Rattle.bench.proofs.examples.ExampleHistories.{computing}
+use Rattle.bench.specs.MomentTen.{full-confirmation}
+use Rattle.bench.proofs.examples.MomentTen.{full-judged}
 use Rattle.bench.proofs.examples.NotEmpty.{full-confirmation-is-atomic}
 use Rattle.bench.proofs.dummies.RefusingNode.{NoneHeld, none-fresh, none-due, none-request, none-next-frame, none-tick, none-set-ups}
-
--- ── the second half of demand 3, of any two benches: b₁ at the request, b₃ at the judgement ──
-abbrev pub AllIfFullAt : Stream → (payload : List ℕ) → (b₁ b₃ : Bench) → Type 0
-AllIfFullAt s payload b₁ b₃ =
-    T (wasFull (bookOf s 0 b₃ .payloadFrame)) → T (wasFull (bookOf s 0 b₃ .confirmation))
-    → (i : ℕ) → T (liveReceiver s b₃ i)
-    → (t : ℕ) × (delivered s i b₃ ≡ record { at = t; stream = s; payload = payload } ∷ delivered s i b₁)
 
 -- it is what demand 3 says of a judged message
 pub second-half : (b₀ : Bench) (h : List Event) (m : Judged b₀ h) → Atomic b₀ h m
     → AllIfFullAt (m .stream) (m .payload) (atRequest b₀ h m) (atJudgement b₀ h m)
 second-half b₀ h m a = a .allIfFull
-
--- it is false, wherever it asks anything: both frames are full, and a receiver is alive
-abbrev pub FailsAt : Stream → (payload : List ℕ) → (b₁ b₃ : Bench) → Type 0
-FailsAt s payload b₁ b₃ =
-    T (wasFull (bookOf s 0 b₃ .payloadFrame)) → T (wasFull (bookOf s 0 b₃ .confirmation))
-    → (i : ℕ) → T (liveReceiver s b₃ i) → AllIfFullAt s payload b₁ b₃ → ⊥
 
 abbrev logsIn : List Module → List (List Delivery)
 logsIn ms = map (λ (m : Module). m .log) ms
@@ -62,49 +52,6 @@ same-logs-fail s payload b₁ b₃ same data-full confirmation-full i lives all 
     let once = all data-full confirmation-full i lives in
     omega (arith, ap length (sym (same-logs s b₁ b₃ same i) ∙ once .1))
 
--- ── the bench of other modules ──
--- what a live module does with a frame that it hears, and at a tick; requests, giving out and deaths are as they are
-pub record Manner : Type 0 where
-  pub hearing : Frame → Module → Module
-  pub ticking : Module → Module
-
-module _ (M : Manner) where
-  abbrev pub hearsBy : To → (owner : ℕ) → Frame → ℕ → Module → Module
-  hearsBy to owner f i m = cond (m .live && named to i && not (eqb i owner)) (M .hearing f m) m
-
-  abbrev pub tickedBy : Module → Module
-  tickedBy m = cond (m .live) (M .ticking m) m
-
-  unfoldable pub stepBy : Bench → Event → Bench
-  stepBy b (asks i s payload) = step b (asks i s payload)
-  stepBy b (gives i s code) = step b (gives i s code)
-  stepBy b (sends s message w to) =
-      moved
-      (record {
-        modules = b .modules;
-        ledgers = onBooks s (at (onFrame w (sentOnce (now b) (isFull to))) message) (b .ledgers);
-      })
-      (each (hearsBy to (ownerOf w (bookOf s message b)) (frameOf w (bookOf s message b))) 0 (b .modules))
-  stepBy b ticks = moved b (map tickedBy (b .modules))
-  stepBy b (dies i) = step b (dies i)
-
-  abbrev pub runBy : Bench → List Event → Bench
-  runBy b [] = b
-  runBy b (e ∷ es) = runBy (stepBy b e) es
-
-  -- every event is as the bench rules ask
-  abbrev pub keepsBy : Bench → List Event → Bool
-  keepsBy b [] = true
-  keepsBy b (e ∷ es) = may b e && keepsBy (stepBy b e) es
-
--- crate node's
-abbrev pub asNode : Manner
-asNode =
-    record {
-      hearing = λ f m. record { node = heard f m .node; live = m .live; log = onto (atOnce f m) (m .log) };
-      ticking = λ m. record { node = call unbounded (tick lent) m .node; live = m .live; log = onto (deliveries unbounded (m .node)) (m .log) };
-    }
-
 -- with it the bench is the one of the rules
 pub as-node-step : (b : Bench) (e : Event) → stepBy asNode b e ≡ step b e
 unfolding stepBy step
@@ -114,7 +61,7 @@ as-node-step b (sends s message w to) = refl
 as-node-step b ticks = refl
 as-node-step b (dies i) = refl
 
-pub as-node : (h : List Event) (b : Bench) → runBy asNode b h ≡ run b h
+pub as-node : AsNodeIsTheRules
 as-node [] b = refl
 as-node (e ∷ es) b = as-node es (stepBy asNode b e) ∙ ap (λ c. run c es) (as-node-step b e)
 
@@ -218,11 +165,6 @@ module _ (M : Manner) (P : Node → Type 0) (n : LogsNothing M P) where
   logging-nothing-fails b₀ ps before h s payload =
       same-logs-fail s payload (runBy M b₀ before) (runBy M b₀ h) (run-logs h b₀ ps ∙ sym (run-logs before b₀ ps))
 
--- ── modules that never deliver, whatever else they do ──
-pub record NeverDelivers (M : Manner) : Type 0 where
-  pub hearing-adds-nothing : (f : Frame) (m : Module) → M .hearing f m .log ≡ m .log
-  pub ticking-adds-nothing : (m : Module) → M .ticking m .log ≡ m .log
-
 abbrev AnyNode : Node → Type 0
 AnyNode n = Unit {0}
 
@@ -230,9 +172,8 @@ any-nodes : (ms : List Module) → EachNode AnyNode ms
 any-nodes [] = tt
 any-nodes (m ∷ ms) = (tt, any-nodes ms)
 
--- NEVER DELIVERING FAILS: from any bench, at the request after the events before it, and at the judgement after all events so far
-pub never-delivering-fails : (M : Manner) → NeverDelivers M → (b₀ : Bench) (before h : List Event) (s : Stream) (payload : List ℕ)
-    → FailsAt s payload (runBy M b₀ before) (runBy M b₀ h)
+-- ── modules that never deliver ──
+pub never-delivering-fails : NeverDeliveringFails
 never-delivering-fails M n b₀ = logging-nothing-fails M AnyNode logs-nothing b₀ (any-nodes (b₀ .modules))
   where
     logs-nothing : LogsNothing M AnyNode
@@ -247,12 +188,7 @@ never-delivering-fails M n b₀ = logging-nothing-fails M AnyNode logs-nothing b
           fresh-has = tt;
         }
 
--- ── modules that refuse all frames: nothing is changed and nothing is logged; their ticks are crate node's ──
-pub record RefusesAll (M : Manner) : Type 0 where
-  pub hearing-changes-nothing : (f : Frame) (m : Module) → M .hearing f m .node ≡ m .node
-  pub hearing-adds-nothing : (f : Frame) (m : Module) → M .hearing f m .log ≡ m .log
-  pub ticks-as-node : (m : Module) → M .ticking m ≡ asNode .ticking m
-
+-- ── modules that refuse all frames ──
 -- no receiver ever holds a message, so no tick delivers one
 tick-adds-nothing : (m : Module) → NoneHeld (m .node) → asNode .ticking m .log ≡ m .log
 tick-adds-nothing m k = rw (none-due unbounded (m .node .counter + 1) (m .node .slots) k) refl
@@ -280,18 +216,14 @@ start-logs-none [] i = refl
 start-logs-none (p ∷ ps) zero = refl
 start-logs-none (p ∷ ps) (suc i) = start-logs-none ps i
 
-module _ (M : Manner) (r : RefusesAll M) (plan : Plan) where
-  -- whatever happens after set up, no module delivers anything
-  pub refusing-delivers-nothing : (h : List Event) (i : ℕ) → moduleAt i (runBy M (start plan) h) .log ≡ []
-  refusing-delivers-nothing h i =
-      log-at i (runBy M (start plan) h .modules)
-      ∙ (ap (nth [] i) (run-logs M NoneHeld (refusers-log-nothing M r) h (start plan) (start-holds-none plan))
-      ∙ (sym (log-at i (start plan .modules)) ∙ start-logs-none plan i))
+pub refusing-delivers-nothing : RefusingDeliversNothing
+refusing-delivers-nothing M r plan h i =
+    log-at i (runBy M (start plan) h .modules)
+    ∙ (ap (nth [] i) (run-logs M NoneHeld (refusers-log-nothing M r) h (start plan) (start-holds-none plan))
+    ∙ (sym (log-at i (start plan .modules)) ∙ start-logs-none plan i))
 
-  -- REFUSING FAILS: from any set up, at the request after the events before it, and at the judgement after all events so far
-  pub refusing-fails : (before h : List Event) (s : Stream) (payload : List ℕ)
-      → FailsAt s payload (runBy M (start plan) before) (runBy M (start plan) h)
-  refusing-fails = logging-nothing-fails M NoneHeld (refusers-log-nothing M r) (start plan) (start-holds-none plan)
+pub refusing-fails : RefusingFails
+refusing-fails M r plan = logging-nothing-fails M NoneHeld (refusers-log-nothing M r) (start plan) (start-holds-none plan)
 
 -- ── moment 10 with a full confirmation, on crate node's bench and on two benches of dummies ──
 abbrev pub requested : Manner → Bench

@@ -8,7 +8,8 @@ use Rattle.bench.specs.Bench.{Delivery, thePayload, theConfirmation, the
 use Rattle.bench.specs.SetUp.{Entry, Plan, start}
 use Rattle.bench.specs.Events.{Event, asks, gives, sends, ticks, dies, all, only}
 use Rattle.bench.specs.Demands.{Judged, Seen}
-use Rattle.bench.proofs.examples.ExampleHistories.{computing, five, twoM, message, wait, got, Shows}
+use Rattle.bench.specs.MomentTen.{five, twoM, message, wait, got, Shows}
+use Rattle.bench.proofs.examples.ExampleHistories.{computing}
 
 -- ── the streams: 3 is plain, 4 IMD, 5 and 6 are 2M ──
 abbrev three : Stream

@@ -3,7 +3,8 @@ use mathlib.Core.Path.{refl}
 use mathlib.Core.List.{List, [], _∷_, _++_}
 use Rattle.bench.specs.Bench.{thePayload, theConfirmation, theAbort}
 use Rattle.bench.specs.Events.{Event, asks, gives, sends, dies, all, only}
-use Rattle.bench.proofs.examples.ExampleHistories.{computing, five, three, message, wait, got, Shows}
+use Rattle.bench.specs.MomentTen.{five, three, message, wait, got, Shows}
+use Rattle.bench.proofs.examples.ExampleHistories.{computing}
 
 -- the request is at 10, and the data is given out
 abbrev asked : List Event

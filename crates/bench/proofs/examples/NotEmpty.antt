@@ -13,17 +13,19 @@ use Rattle.bench.specs.Rules.{oneOmission, keepsSoFar}
 use Rattle.bench.specs.Demands.{Atomic, Before}
 use Rattle.bench.proofs.demand3.WholeHistory.{demand3-whole-history}
 use Rattle.bench.proofs.same_order.SameOrder.{same-order}
-use Rattle.bench.proofs.examples.ExampleHistories.{computing, five, three, message, got}
-use Rattle.bench.proofs.examples.MomentTen.{short-confirmation, nobody-delivers, short-judged, full-confirmation, both-deliver, full-judged}
+use Rattle.bench.specs.MomentTen.{five, three, message, got}
+use Rattle.bench.proofs.examples.ExampleHistories.{computing}
+use Rattle.bench.specs.MomentTen.{short-confirmation, full-confirmation}
+use Rattle.bench.proofs.examples.MomentTen.{moment-ten, short-judged, full-judged}
 use Rattle.bench.proofs.examples.EightModules.{eight, six, busy-day, a-busy-day, first-on-five, seen-on-five, seen-on-six}
 
 pub short-confirmation-is-atomic : Atomic (start three) short-confirmation short-judged
 short-confirmation-is-atomic =
-    demand3-whole-history three (so (nobody-delivers .set-up)) short-confirmation (so (nobody-delivers .keeps-rules)) short-judged
+    demand3-whole-history three (so (moment-ten .short .set-up)) short-confirmation (so (moment-ten .short .keeps-rules)) short-judged
 
 pub full-confirmation-is-atomic : Atomic (start three) full-confirmation full-judged
 full-confirmation-is-atomic =
-    demand3-whole-history three (so (both-deliver .set-up)) full-confirmation (so (both-deliver .keeps-rules)) full-judged
+    demand3-whole-history three (so (moment-ten .full .set-up)) full-confirmation (so (moment-ten .full .keeps-rules)) full-judged
 
 pub busy-day-is-atomic : Atomic (start eight) busy-day first-on-five
 busy-day-is-atomic = demand3-whole-history eight (so (a-busy-day .set-up)) busy-day (so (a-busy-day .keeps-rules)) first-on-five

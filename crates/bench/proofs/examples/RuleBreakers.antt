@@ -7,7 +7,8 @@ use Rattle.bench.specs.Bench.{Bench, Book, Which, thePayload, theConfirm
 use Rattle.bench.specs.SetUp.{isDone, start}
 use Rattle.bench.specs.Events.{Event, asks, gives, sends, ticks, dies, To, all, only, next, step, run}
 use Rattle.bench.specs.Rules.{wasSent, wasFull, inTurn, inReach, servedAborts, omissions, keepsSoFar, keeps}
-use Rattle.bench.proofs.examples.ExampleHistories.{computing, five, three, message, wait}
+use Rattle.bench.specs.MomentTen.{five, three, message, wait}
+use Rattle.bench.proofs.examples.ExampleHistories.{computing}
 
 -- the bench after a history, and the book of the newest message
 abbrev pub after : List Event → Bench

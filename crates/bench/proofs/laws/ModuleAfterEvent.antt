@@ -25,7 +25,7 @@ use Rattle.bench.specs.Bench.{Module, Bench, Frame, noModule, moduleAt, 
 use Rattle.bench.specs.Bench.{sameStream}
 use Rattle.bench.specs.Events.{Event, asks, gives, sends, ticks, dies, step, ticked, dead, hears, named, isAccepted, isNext, opened}
 use Rattle.bench.specs.Events.{gave, withNode, atOnce, lent, onto, deliveries, asked, next}
-use Rattle.bench.specs.Lists.{nth, at, each}
+use Rattle.bench.specs.Lists.{nth, at}
 use Rattle.bench.specs.SetUp.{isDone}
 use Rattle.bench.proofs.laws.SlotAfterCall.{Same, same-stream, takes, hearing, hear-own, hear-other, ticking, tick-slot, asking, accepts, ask-own}
 use Rattle.bench.proofs.laws.SlotAfterCall.{ask-other, hear-counter, tick-counter, ask-counter, giving, next-own, next-other, next-counter}

@@ -2,19 +2,19 @@
 use Prim.Native.Nat.{ℕ, _+_, _-_}
 use native.Mathlib.Omega.{arith}
 use mathlib.Core.Path.{_≡_, refl, sym, ap, ap₂, subst, _∙_}
-use mathlib.Core.Bool.{Bool, true, false, cond, _||_, or-false, or-true}
-use mathlib.Core.List.{List, [], _∷_, map}
+use mathlib.Core.Bool.{Bool, true, false, _||_, or-false, or-true}
+use mathlib.Core.List.{List, [], _∷_}
 use lib.Seq.{take-append-seam}
 use lib.Dec.{ltb}
 use borrow.Author.Tests.{ltb-true, ltb-false, lt-ltb, le-ltb}
 use Rattle.wire.specs.Settings.{receives, sends, isImd, isTwoMessage}
 use Rattle.node.specs.declared.slots.Slot.{Slot}
-use Rattle.node.specs.Slots.{nothing, payloadOf, abortPending, withParts, withMessage}
+use Rattle.node.specs.Slots.{nothing, abortPending, withParts, withMessage}
 use Rattle.node.specs.Hear.{heardBy}
 use Rattle.node.specs.Request.{requested}
 use Rattle.node.specs.NextFrame.{payloadFor, givenOut}
 use Rattle.node.specs.Tick.{late, due, holdOver, lapsed}
-use Rattle.node.specs.Listing.{Frame, State, Intervals, Received, ReceivedSet, Ruled, leaves, aborts, delivers, receive, deliverOrAbort}
+use Rattle.node.specs.Listing.{Frame, Intervals, ReceivedSet, Ruled, leaves, aborts, delivers, receive, deliverOrAbort}
 use Rattle.node.specs.SameAsListing.{intervals, received, listed, codeFor, payloadIn, Reliable, forgotten, deliveredBy, Event, heardFrame}
 use Rattle.node.specs.SameAsListing.{tickedSlot, slotShows, listingShows, Fair, SameAsListing, SendsAsListing}
 use Rattle.node.proofs.Choices.{contrary, refuted}
