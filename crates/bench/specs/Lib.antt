@@ -4,4 +4,3 @@ pub mod SetUp
 pub mod Events
 pub mod Rules
 pub mod Demands
-pub mod InCode

@@ -18,7 +18,7 @@ use Rattle.node.specs.Tick.{tick, late, due, holdOver, lapsed}
 use Rattle.node.specs.NextFrame.{nextFrame, pendingIn, pendingIds, lowest, give, givenOut}
 use Rattle.node.specs.Calls.{Call, outcome, after}
 use Rattle.node.specs.Listing.{Frame, State, Intervals, ReceivedSet, leaves, timesFrom, timesOf, receive, deliverOrAbort}
-use Rattle.node.proofs.Moments.{five, receive as receiver, settings, data₅, confirmation₅, next, ticks}
+use Rattle.node.specs.Moments.{five, receive as receiver, settings, data₅, confirmation₅, next, ticks}
 
 -- stream 5 of the worked moments, by either
 abbrev i : Intervals

@@ -1,64 +1,29 @@
 -- The rules paper's 2M receiver does what the listing in HURRAY-TR-0014 does, in every history in which all data is equal to what is held.
 use Prim.Native.Nat.{ℕ, _+_, _-_}
 use native.Mathlib.Omega.{arith}
-use mathlib.Core.Path.{_≡_, refl, sym, ap₂, subst, _∙_}
+use mathlib.Core.Path.{_≡_, refl, sym, ap, ap₂, subst, _∙_}
 use mathlib.Core.Bool.{Bool, true, false, cond, _||_, or-false, or-true}
 use mathlib.Core.List.{List, [], _∷_, map}
 use lib.Seq.{take-append-seam}
 use lib.Dec.{ltb}
 use borrow.Author.Tests.{ltb-true, ltb-false, lt-ltb, le-ltb}
-use Rattle.wire.specs.declared.settings.Settings.{Settings}
 use Rattle.wire.specs.Settings.{receives, sends, isImd, isTwoMessage}
 use Rattle.node.specs.declared.slots.Slot.{Slot}
-use Rattle.node.specs.declared.slots.Message.{Message}
 use Rattle.node.specs.Slots.{nothing, payloadOf, abortPending, withParts, withMessage}
-use Rattle.node.specs.Hear.{clashes, heardBy}
+use Rattle.node.specs.Hear.{heardBy}
 use Rattle.node.specs.Request.{requested}
-use Rattle.node.specs.NextFrame.{pendingCodes, payloadFor}
+use Rattle.node.specs.NextFrame.{payloadFor, givenOut}
 use Rattle.node.specs.Tick.{late, due, holdOver, lapsed}
 use Rattle.node.specs.Listing.{Frame, State, Intervals, Received, ReceivedSet, Ruled, leaves, aborts, delivers, receive, deliverOrAbort}
-use Rattle.node.specs.Listing.{atomicMulticast}
+use Rattle.node.specs.SameAsListing.{intervals, received, listed, codeFor, payloadIn, Reliable, forgotten, deliveredBy, Event, heardFrame}
+use Rattle.node.specs.SameAsListing.{tickedSlot, slotShows, listingShows, Fair, SameAsListing, SendsAsListing}
 use Rattle.node.proofs.Choices.{contrary, refuted}
 use Rattle.node.proofs.slots.Streams.{Kind, kindOf, heard-keeps, lapsed-keeps}
 use Rattle.node.proofs.tick.Tests.{late-tells, due-tells}
 use Rattle.node.proofs.kept.EachSlot.{not-sender, two-not-plain}
 use Rattle.node.proofs.EarlierErrors.{unconfirmed-never-due}
 
--- ── how a slot stands for the set of received messages ──
-abbrev pub intervals : Slot → Intervals
-intervals x = record { toConfirm = x .settings .dc; toDeliver = x .settings .dd }
-
-abbrev pub stateOf : Message → State
-stateOf m = cond (m .confirmed) State.confirmed State.unstable
-
--- held is in the set; its times are stamp + dc and stamp + dd
-abbrev pub received : Settings → Message → Received
-received s m =
-    record { payload = payloadOf m; state = stateOf m; times = record { toConfirm = m .stamp + s .dc; toDeliver = m .stamp + s .dd } }
-
-abbrev pub listed : Slot → ReceivedSet
-listed x = cond (x .message .held) (ReceivedSet.present (received (x .settings) (x .message))) ReceivedSet.absent
-
-abbrev pub codeFor : Frame → ℕ
-codeFor (Frame.message payload) = 0
-codeFor Frame.confirmation = 1
-codeFor Frame.abort = 2
-codeFor (Frame.unreliable payload) = 3
-
-abbrev pub payloadIn : Frame → List ℕ
-payloadIn (Frame.message payload) = payload
-payloadIn (Frame.unreliable payload) = payload
-payloadIn Frame.confirmation = []
-payloadIn Frame.abort = []
-
 -- ── hearing ──
--- the frames of 2M
-abbrev pub Reliable : Frame → Type 0
-Reliable (Frame.message payload) = Unit {0}
-Reliable (Frame.unreliable payload) = ⊥
-Reliable Frame.confirmation = Unit {0}
-Reliable Frame.abort = Unit {0}
-
 -- after a rule the slot y, that was x, stands for the set; an abort is pending if one was, or if one was sent
 pub record Follows (x y : Slot) (set : ReceivedSet) (sendsAbort : Bool) : Type 0 where
   pub same-set : listed y ≡ set
@@ -84,16 +49,6 @@ heard-follows now x f r = by-held (x .message .held) refl f r
     by-held false e (Frame.unreliable payload) r = absurd r
 
 -- ── ticking ──
--- a delivered message leaves the table
-abbrev pub forgotten : ReceivedSet → ReceivedSet
-forgotten ReceivedSet.absent = ReceivedSet.absent
-forgotten (ReceivedSet.present m) = kept (m .state) m
-  where
-    kept : State → Received → ReceivedSet
-    kept State.unstable m = ReceivedSet.present m
-    kept State.confirmed m = ReceivedSet.present m
-    kept State.delivered m = ReceivedSet.absent
-
 -- what a slot holds is not delivered yet
 listed-stays : (x : Slot) → forgotten (listed x) ≡ listed x
 listed-stays x = by-message (x .message .held) (x .message .confirmed) refl refl
@@ -102,9 +57,6 @@ listed-stays x = by-message (x .message .held) (x .message .confirmed) refl refl
     by-message false c e ec = rw e
     by-message true true e ec = rw (e, ec)
     by-message true false e ec = rw (e, ec)
-
-abbrev pub deliveredBy : (age : ℕ) → Slot → List (List ℕ)
-deliveredBy age x = cond (due age x) (payloadOf (x .message) ∷ []) []
 
 -- an age above d is a time stamp + d that has passed
 age-passed : (d now stamp : ℕ) → ltb d (now - stamp) ≡ ltb (stamp + d) now
@@ -193,50 +145,7 @@ module _ (now : ℕ) (x : Slot) (used : x .used ≡ true) (r : receives (x .sett
       by-message true true e ec = settled-follows e ec
 
 -- ── every history of a 2M receive slot ──
-pub data Event : Type 0 where
-  hears : Frame → Event
-  ticks : Event
-
-abbrev pub heardFrame : ℕ → Frame → Slot → Slot
-heardFrame now f x = heardBy now (codeFor f) (payloadIn f) x
-
-abbrev pub tickedSlot : ℕ → Slot → Slot
-tickedSlot now x = lapsed (now - x .message .stamp) x
-
--- what an event shows: the payloads delivered, and whether an abort is pending, or was sent, by then
-pub record Shows : Type 0 where
-  pub delivered : List (List ℕ)
-  pub aborted : Bool
-
--- of the slot; data with other bytes than those held is refused
-abbrev pub slotShows : (now : ℕ) → Slot → List Event → List Shows
-slotShows now x [] = []
-slotShows now x (hears f ∷ es) =
-    let y = cond (clashes (codeFor f) (payloadIn f) x) x (heardFrame now f x) in
-    record { delivered = []; aborted = y .pending .abort } ∷ slotShows now y es
-slotShows now x (ticks ∷ es) =
-    let y = tickedSlot (now + 1) x in
-    record { delivered = deliveredBy (now + 1 - x .message .stamp) x; aborted = y .pending .abort } ∷ slotShows (now + 1) y es
-
--- of the listing, where what is delivered is taken out of the set
-abbrev pub listingShows : Intervals → (now : ℕ) → ReceivedSet → (sent : Bool) → List Event → List Shows
-listingShows i now set sent [] = []
-listingShows i now set sent (hears f ∷ es) =
-    let ruled = receive i now f set in
-    let more = sent || ruled .sendsAbort in
-    record { delivered = ruled .delivers; aborted = more } ∷ listingShows i now (ruled .set) more es
-listingShows i now set sent (ticks ∷ es) =
-    let ruled = deliverOrAbort (now + 1) set in
-    let more = sent || ruled .sendsAbort in
-    record { delivered = ruled .delivers; aborted = more } ∷ listingShows i (now + 1) (forgotten (ruled .set)) more es
-
--- all frames are of 2M, and all data has the length and bytes of what is held
-abbrev pub Fair : (now : ℕ) → Slot → List Event → Type 0
-Fair now x [] = Unit {0}
-Fair now x (hears f ∷ es) = Reliable f × (clashes (codeFor f) (payloadIn f) x ≡ false) × Fair now (heardFrame now f x) es
-Fair now x (ticks ∷ es) = Fair (now + 1) (tickedSlot (now + 1) x) es
-
-pub record TwoReceiver (k : Kind) : Type 0 where
+record TwoReceiver (k : Kind) : Type 0 where
   pub used : k .used ≡ true
   pub receiver : receives (k .settings) ≡ true
   pub two-message : isTwoMessage (k .settings) ≡ true
@@ -254,29 +163,33 @@ reliable-delivers-nothing i now Frame.abort (ReceivedSet.present m) r = refl
 reliable-delivers-nothing i now (Frame.unreliable payload) set r = absurd r
 
 -- for every history that is fair the slot shows what the listing shows
-pub same-as-listing : (es : List Event) (now : ℕ) (x : Slot) → TwoReceiver (kindOf x) → Fair now x es
+by-kind : (es : List Event) (now : ℕ) (x : Slot) → TwoReceiver (kindOf x) → Fair now x es
     → slotShows now x es ≡ listingShows (intervals x) now (listed x) (x .pending .abort) es
-same-as-listing [] now x t fair = refl
-same-as-listing (hears f ∷ es) now x t fair =
+unfolding givenOut
+by-kind [] now x t fair = refl
+by-kind (Event.hears f ∷ es) now x t fair =
     let y = heardFrame now f x in
     let keeps : kindOf y ≡ kindOf x = heard-keeps now (codeFor f) (payloadIn f) x in
-    let rest = same-as-listing es now y (subst TwoReceiver (sym keeps) t) (fair .2) in
+    let rest = by-kind es now y (subst TwoReceiver (sym keeps) t) (fair .2) in
     let step = heard-follows now x f (fair .0) in
     let nothing-delivered = reliable-delivers-nothing (intervals x) now f (listed x) (fair .0) in
     rw (fair .1, nothing-delivered)
-    (ap₂ (λ a l. record { delivered = []; aborted = a } ∷ l) (step .same-aborts)
+    (ap₂ (λ a l. record { delivered = []; aborting = a } ∷ l) (step .same-aborts)
     (rest ∙ λ j. listingShows (intervalsOf (keeps j)) now (step .same-set j) (step .same-aborts j) es))
-same-as-listing (ticks ∷ es) now x t fair =
+by-kind (Event.ticks ∷ es) now x t fair =
     let y = tickedSlot (now + 1) x in
     let keeps : kindOf y ≡ kindOf x = lapsed-keeps (now + 1 - x .message .stamp) x in
-    let rest = same-as-listing es (now + 1) y (subst TwoReceiver (sym keeps) t) fair in
+    let rest = by-kind es (now + 1) y (subst TwoReceiver (sym keeps) t) fair in
     let step = tick-follows (now + 1) x (t .used) (t .receiver) (t .two-message) in
-    ap₂ (λ e l. e ∷ l) (λ j. record { delivered = step .1 j; aborted = step .0 .same-aborts j })
+    ap₂ (λ e l. e ∷ l) (λ j. record { delivered = step .1 j; aborting = step .0 .same-aborts j })
     (rest ∙ λ j. listingShows (intervalsOf (keeps j)) (now + 1) (step .0 .same-set j) (step .0 .same-aborts j) es)
+by-kind (Event.gives ∷ es) now x t fair = ap (λ l. record { delivered = []; aborting = false } ∷ l) (by-kind es now (givenOut 2 x) t fair)
+
+pub same-as-listing : SameAsListing
+same-as-listing es now x t fair =
+    by-kind es now x (record { used = t .used; receiver = t .receiver; two-message = t .two-message }) fair
 
 -- ── sending ──
--- a request makes pending what atomic_multicast sends, in its order
-pub multicast-pending : (now : ℕ) (payload : List ℕ) (x : Slot) → isTwoMessage (x .settings) ≡ true
-    → (pendingCodes (requested now payload x) ≡ map codeFor (atomicMulticast payload)) × (payloadFor 0 (requested now payload x) ≡ payload)
+pub sends-as-listing : SendsAsListing
 unfolding requested payloadFor
-multicast-pending now payload x two = rw (two-not-plain (x .settings) two, two) (refl, take-append-seam payload _)
+sends-as-listing now payload x two = rw (two-not-plain (x .settings) two, two) (refl, take-append-seam payload _)
