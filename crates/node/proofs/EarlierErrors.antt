@@ -19,9 +19,11 @@ use Rattle.node.specs.declared.Node.{Node}
 use Rattle.node.specs.Nodes.{slotOf}
 use Rattle.node.specs.Slots.{nothing, holding, restamped, abortPending, isReceiver, withParts, withMessage}
 use Rattle.node.specs.Clock.{Clock, period, rolled}
-use Rattle.node.specs.Hear.{clashes, heardBy, hearAt, hear, hearRoom}
+use Rattle.node.specs.Hear.{clashes, heardBy, hear}
 use Rattle.node.specs.Tick.{late, due, holdOver, lapsed, ageOf, tickSlot, dueSlots, ticked}
-use Rattle.node.proofs.Choices.{unless, contrary, refuted}
+use Rattle.node.proofs.Choices.{contrary, refuted}
+use Rattle.node.proofs.Cases.{by-case}
+use Rattle.node.proofs.hear.Cases.{hear-cases}
 use Rattle.node.proofs.slots.Streams.{heard-keeps, slot-of-changed, slot-of-ticked}
 use Rattle.node.proofs.tick.Tests.{Late, late-tells, due-tells, hold-over-tells}
 use Rattle.node.proofs.tick.Ascending.{Ascends, due-ascend}
@@ -97,22 +99,14 @@ duplicate-restamps now payload x held = rw held
 pub duplicate-keeps-confirmed : (n : Node) (id : BusId) (dlc : ℕ) (payload output : List ℕ)
     → codeOf id ≡ 0 → slotOf (streamOf id) n .message .held ≡ true
     → slotOf (streamOf id) (hear id dlc payload output n .node) .message .confirmed ≡ slotOf (streamOf id) n .message .confirmed
-unfolding hear hearAt
 duplicate-keeps-confirmed n id dlc payload output is-data held =
-    unless Same n (ltb (length output) hearRoom) _ _ refl λ room.
-    unless Same n (badFrame id dlc (length payload)) _ _ refl λ good.
-    unless Same n (not (isReceiver x)) _ _ refl λ own.
-    unless Same n (not (carries (x .settings .class) (codeOf id))) _ _ refl λ fits.
-    unless Same n (clashes (codeOf id) payload x) _ _ refl λ same.
+    let x = slotOf (streamOf id) n in
+    by-case (λ o. slotOf (streamOf id) (o .node) .message .confirmed ≡ x .message .confirmed) (λ r why. refl)
+    (λ h.
     ap (λ (y : Slot). y .message .confirmed)
-    (slot-of-changed (streamOf id) _ (heard-keeps (n .counter) (codeOf id) payload) n (and-eq-true-iff (x .used) _ .0 (not-false _ own) .0))
-    ∙ rw (is-data, duplicate-restamps (n .counter) payload x held)
-  where
-    x : Slot
-    x = slotOf (streamOf id) n
-
-    Same : Node → Type 0
-    Same m = slotOf (streamOf id) m .message .confirmed ≡ slotOf (streamOf id) n .message .confirmed
+    (slot-of-changed (streamOf id) _ (heard-keeps (n .counter) (codeOf id) payload) n (and-eq-true-iff (x .used) _ .0 (h .own) .0))
+    ∙ rw (is-data, duplicate-restamps (n .counter) payload x held))
+    (hear-cases id dlc payload output n .case)
 
 -- ── comparing counters by size ──
 -- k ticks after the stamp the age is k, also where the counter has rolled over and is below the stamp

@@ -14,7 +14,7 @@ use Rattle.node.specs.Slots.{empty, sameBytes, first, onFirst, some}
 use Rattle.node.specs.Nodes.{fresh, Outcome}
 use Rattle.node.specs.Clock.{Clock, period, unbounded, rolled}
 use Rattle.node.specs.SetUp.{slotFor, setUp}
-use Rattle.node.specs.Hear.{hear, hearAt, heardBy, deliveredAtOnce}
+use Rattle.node.specs.Hear.{hear, heardBy, deliveredAtOnce}
 use Rattle.node.specs.Tick.{tick, late, due, holdOver, lapsed, dueSlots, recordsFrom}
 use Rattle.node.specs.Request.{request, requested}
 use Rattle.node.specs.NextFrame.{nextFrame, pendingIn, pendingIds, lowest, give, givenOut, payloadFor}
@@ -74,7 +74,7 @@ each-same f g same [] = refl
 each-same f g same (r ∷ rows) = rw (same (r .trial), each-same f g same rows)
 
 computed : map (λ (r : Row). shortly (r .trial)) moments ≡ map (λ (r : Row). r .shown) moments
-unfolding moments setUp hear hearAt heardBy deliveredAtOnce tick late due holdOver lapsed dueSlots recordsFrom request requested
+unfolding moments setUp hear heardBy deliveredAtOnce tick late due holdOver lapsed dueSlots recordsFrom request requested
     nextFrame pendingIn pendingIds lowest give givenOut payloadFor split carries recordOf badFrame legal sameBytes first onFirst some
 computed = refl
 

@@ -18,7 +18,7 @@ use Rattle.bench.specs.Rules.{may}
 unfoldable pub computing : Bool
 unfolding
     legal badFrame carries recordOf sameBytes first onFirst some setting-up.setUp
-    hearing.heardBy hearing.deliveredAtOnce hearing.hearAt hearing.hear
+    hearing.heardBy hearing.deliveredAtOnce hearing.hear
     ticking.late ticking.due ticking.holdOver ticking.lapsed ticking.dueSlots ticking.recordsFrom ticking.tick
     requesting.requested requesting.request
     giving.pendingIn giving.pendingIds giving.lowest giving.givenOut giving.payloadFor giving.give giving.nextFrame

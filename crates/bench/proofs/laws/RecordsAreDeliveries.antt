@@ -47,7 +47,7 @@ tick-writes clock n = records-of-slots (clock .next (n .counter)) (dueSlots cloc
 -- a frame that the slot takes, if it is plain, and else nothing
 pub hear-writes : (id : BusId) (p : List ℕ) (n : Node)
     → hearing id p n .bytes ≡ cond (takes id (length p) p (slotOf (streamOf id) n)) (deliveredAtOnce id p) []
-unfolding Hear.hear Hear.hearAt
+unfolding Hear.hear
 hear-writes id p n =
     let x = slotOf (streamOf id) n in
     go (badFrame id (length p) (length p)) (isReceiver x) (carries (x .settings .class) (codeOf id)) (clashes (codeOf id) p x) _ refl

@@ -22,7 +22,7 @@ use Rattle.wire.specs.Identifiers.{maxStream, maxBusId, streamOf, codeOf}
 use Rattle.wire.specs.Settings.{receives, sends, isPlain}
 use Rattle.node.specs.Calls.{hear, tick, request, nextFrame, outcome}
 use Rattle.node.specs.Clock.{unbounded}
-use Rattle.node.specs.Hear.{clashes, heardBy, deliveredAtOnce, hearAt}
+use Rattle.node.specs.Hear.{clashes, heardBy, deliveredAtOnce}
 use Rattle.node.specs.NextFrame.{one, lowest, idsFrom, pendingCodes, pendingIds, pendingIn, payloadCode, give, givenOut, payloadFor}
 use Rattle.node.specs.Nodes.{done, refused, slotOf, onSlot, Outcome}
 use Rattle.node.specs.Reachable.{KeptSlot, All, Distinct, Kept}
@@ -121,12 +121,12 @@ module _ (s : Stream) (n : Node) (r : Reply) (o : Outcome) (y : Slot) where
 
 pub hear-own : (id : BusId) (p : List ℕ) (n : Node) → (let x = slotOf (streamOf id) n in
     slotOf (streamOf id) (hearing id p n .node) ≡ cond (takes id (length p) p x) (heardBy (n .counter) (codeOf id) p x) x)
-unfolding Hear.hear Hear.hearAt
+unfolding Hear.hear
 hear-own id p n =
     let s = streamOf id in
     let x = slotOf s n in
     let y = heardBy (n .counter) (codeOf id) p x in
-    unless s n BadFrame (hearAt x id p n) y (badFrame id (length p) (length p)) _ λ good.
+    unless s n BadFrame _ y (badFrame id (length p) (length p)) _ λ good.
     if-so s n NotMine _ y (isReceiver x) _ λ own.
     if-so s n Misfit _ y (carries (x .settings .class) (codeOf id)) _ λ fits.
     unless-last s n Clash _ y (clashes (codeOf id) p x)
@@ -141,7 +141,7 @@ other-if s n false r o h = h
 
 pub hear-other : (s : Stream) (id : BusId) (p : List ℕ) (n : Node) → (Same s (streamOf id) → ⊥)
     → slotOf s (hearing id p n .node) ≡ slotOf s n
-unfolding Hear.hear Hear.hearAt
+unfolding Hear.hear
 hear-other s id p n other =
     other-if s n (badFrame id (length p) (length p)) BadFrame _
     (other-if s n (not (isReceiver (slotOf (streamOf id) n))) NotMine _
@@ -151,7 +151,7 @@ hear-other s id p n other =
 
 -- hearing delivers at once only what is plain
 pub hear-bytes : (id : BusId) (p : List ℕ) (n : Node) → (T (eqb (codeOf id) 3) → ⊥) → hearing id p n .bytes ≡ []
-unfolding Hear.hear Hear.hearAt deliveredAtOnce
+unfolding Hear.hear deliveredAtOnce
 hear-bytes id p n not-plain =
     none (badFrame id (length p) (length p)) BadFrame _
     (none (not (isReceiver (slotOf (streamOf id) n))) NotMine _
@@ -213,7 +213,7 @@ ask-reply s p n = go (ltb maxPayload (length p)) (isSender (slotOf s n)) (busy (
 
 -- ── counters ──
 pub hear-counter : (id : BusId) (p : List ℕ) (n : Node) → hearing id p n .node .counter ≡ n .counter
-unfolding Hear.hear Hear.hearAt
+unfolding Hear.hear
 hear-counter id p n =
     same (badFrame id (length p) (length p)) BadFrame _
     (same (not (isReceiver (slotOf (streamOf id) n))) NotMine _

@@ -1,32 +1,32 @@
 -- What every reached node keeps is kept by every call.
 use Prim.Native.Nat.{ℕ, _+_, _-_, _≤_}
 use mathlib.Core.Path.{_≡_, refl, _∙_}
-use mathlib.Core.Bool.{true, not, and-eq-true-iff}
+use mathlib.Core.Bool.{true, and-eq-true-iff}
 use mathlib.Core.List.{List, [], _∷_}
 use lib.ListN.{length, length-map}
-use lib.Dec.{ltb}
-use borrow.Author.Tests.{ltb-false, not-false}
 use Rattle.wire.specs.declared.ids.Stream.{Stream}
 use Rattle.wire.specs.declared.ids.BusId.{BusId}
 use Rattle.wire.specs.declared.settings.Settings.{Settings}
-use Rattle.wire.specs.Settings.{legal}
-use Rattle.wire.specs.Identifiers.{maxBusId, streamOf, codeOf}
-use Rattle.wire.specs.Classes.{carries}
-use Rattle.wire.specs.Frames.{maxPayload, badFrame}
+use Rattle.wire.specs.Identifiers.{streamOf, codeOf}
 use Rattle.wire.proofs.Frames.{frame-length}
 use Rattle.node.specs.declared.slots.Slot.{Slot}
 use Rattle.node.specs.declared.Node.{Node}
-use Rattle.node.specs.Slots.{empty, isFree, isOf, isReceiver, isSender, some}
-use Rattle.node.specs.Nodes.{fresh, slotCount, slotOf, hasSlot, onSlot}
+use Rattle.node.specs.Slots.{empty, isFree, isOf}
+use Rattle.node.specs.Nodes.{fresh, slotCount, slotOf, onSlot, Outcome, Refusals}
 use Rattle.node.specs.Clock.{unbounded}
 use Rattle.node.specs.SetUp.{setUp, slotFor}
-use Rattle.node.specs.Hear.{hear, hearAt, heardBy, clashes, hearRoom}
-use Rattle.node.specs.Tick.{tick, tickSlot, tickRoom}
-use Rattle.node.specs.Request.{request, requested, busy}
-use Rattle.node.specs.NextFrame.{nextFrame, give, givenOut, lowest, pendingIds, nextRoom}
+use Rattle.node.specs.Hear.{hear, heardBy}
+use Rattle.node.specs.Tick.{tick, tickSlot}
+use Rattle.node.specs.Request.{request, requested}
+use Rattle.node.specs.NextFrame.{nextFrame, give, givenOut, lowest, pendingIds}
 use Rattle.node.specs.Calls.{Call, outcome, afterFrom, after}
 use Rattle.node.specs.Reachable.{KeptSlot, Kept}
-use Rattle.node.proofs.Choices.{unless}
+use Rattle.node.proofs.Cases.{Case, by-case}
+use Rattle.node.proofs.set_up.Cases.{set-up-cases}
+use Rattle.node.proofs.hear.Cases.{hear-cases}
+use Rattle.node.proofs.tick.Cases.{tick-cases}
+use Rattle.node.proofs.request.Cases.{request-cases}
+use Rattle.node.proofs.next_frame.Cases.{next-cases}
 use Rattle.node.proofs.slots.Table.{length-on-first, all-map, all-replicate, all-first, all-on-first}
 use Rattle.node.proofs.slots.Streams.{KeepsKind, heard-keeps, lapsed-keeps, requested-keeps, given-out-keeps, distinct-fresh, distinct-map}
 use Rattle.node.proofs.slots.Streams.{distinct-on-first, distinct-set-up}
@@ -36,17 +36,18 @@ pub kept-fresh : Kept fresh
 kept-fresh = record { slots-32 = refl; distinct = distinct-fresh slotCount; each = all-replicate (KeptSlot 0) slotCount empty (kept-empty 0) }
 
 module _ (n : Node) (k : Kept n) where
+  -- a refusal keeps all
+  kept-unless : {tests : Refusals} {Facts : Type 0} {result o : Outcome} → Case n tests Facts result o → (Facts → Kept (result .node)) → Kept (o .node)
+  kept-unless c step = by-case (λ o. Kept (o .node)) (λ r why. k) step c
+
   set-up-keeps : (s : Stream) (settings : Settings) → Kept (setUp s settings n .node)
-  unfolding setUp
   set-up-keeps s settings =
-      unless Kept n (not (legal s settings)) _ _ k λ ok.
-      unless Kept n (hasSlot s n) _ _ k λ new.
-      unless Kept n (not (some isFree (n .slots))) _ _ k λ room.
+      kept-unless (set-up-cases s settings n .case) λ h.
       record {
         slots-32 = length-on-first isFree _ (n .slots) ∙ k .slots-32;
-        distinct = distinct-set-up s settings (n .slots) new (k .distinct);
+        distinct = distinct-set-up s settings (n .slots) (h .new) (k .distinct);
         each = all-on-first (KeptSlot (n .counter)) isFree (λ x. slotFor s settings) (n .slots) (k .each)
-            (λ free kx. kept-set-up (n .counter) s settings (not-false _ ok));
+            (λ free kx. kept-set-up (n .counter) s settings (h .lawful));
       }
 
   -- a change of one slot
@@ -63,27 +64,16 @@ module _ (n : Node) (k : Kept n) where
   pub slot-kept : (s : Stream) → KeptSlot (n .counter) (slotOf s n)
   slot-kept s = all-first (KeptSlot (n .counter)) (isOf s) (kept-empty (n .counter)) (n .slots) (k .each)
 
-  hear-at-keeps : (id : BusId) (payload : List ℕ) → length payload ≤ maxPayload → Kept (hearAt (slotOf (streamOf id) n) id payload n .node)
-  unfolding hearAt
-  hear-at-keeps id payload small =
-      let x = slotOf (streamOf id) n in
-      unless Kept n (not (isReceiver x)) _ _ k λ own.
-      unless Kept n (not (carries (x .settings .class) (codeOf id))) _ _ k λ fits.
-      unless Kept n (clashes (codeOf id) payload x) _ _ k λ same.
-      on-slot-keeps (streamOf id) (heardBy (n .counter) (codeOf id) payload) (heard-keeps (n .counter) (codeOf id) payload)
-      (λ here kx. kept-heard (n .counter) x kx (codeOf id) payload (not-false _ own) (not-false _ fits) small)
-
   hear-keeps : (id : BusId) (dlc : ℕ) (payload output : List ℕ) → Kept (hear id dlc payload output n .node)
-  unfolding hear
   hear-keeps id dlc payload output =
-      unless Kept n (ltb (length output) hearRoom) _ _ k λ room.
-      unless Kept n (badFrame id dlc (length payload)) _ _ k λ good.
-      hear-at-keeps id payload (frame-length id dlc (length payload) good)
+      kept-unless (hear-cases id dlc payload output n .case) λ h.
+      on-slot-keeps (streamOf id) (heardBy (n .counter) (codeOf id) payload) (heard-keeps (n .counter) (codeOf id) payload)
+      (λ here kx.
+      kept-heard (n .counter) (slotOf (streamOf id) n) kx (codeOf id) payload (h .own) (h .fits) (frame-length id dlc (length payload) (h .good)))
 
   tick-keeps : (output : List ℕ) → Kept (tick unbounded output n .node)
-  unfolding tick
   tick-keeps output =
-      unless Kept n (ltb (length output) tickRoom) _ _ k λ room.
+      kept-unless (tick-cases output unbounded n .case) λ h.
       record {
         slots-32 = length-map (n .slots) _ ∙ k .slots-32;
         distinct = distinct-map (tickSlot unbounded (n .counter + 1)) (λ x. lapsed-keeps (n .counter + 1 - x .message .stamp) x) (n .slots) (k .distinct);
@@ -91,19 +81,15 @@ module _ (n : Node) (k : Kept n) where
       }
 
   request-keeps : (s : Stream) (payload : List ℕ) → Kept (request s payload n .node)
-  unfolding request
   request-keeps s payload =
-      unless Kept n (ltb maxPayload (length payload)) _ _ k λ small.
-      unless Kept n (not (isSender (slotOf s n))) _ _ k λ own.
-      unless Kept n (busy (slotOf s n)) _ _ k λ ready.
+      kept-unless (request-cases payload s n .case) λ h.
       on-slot-keeps s (requested (n .counter) payload) (requested-keeps (n .counter) payload)
-      (λ here kx. kept-requested (n .counter) (slotOf s n) kx payload (not-false _ own) (ltb-false _ _ small))
+      (λ here kx. kept-requested (n .counter) (slotOf s n) kx payload (h .own) (h .short))
 
   next-frame-keeps : (output : List ℕ) → Kept (nextFrame output n .node)
-  unfolding nextFrame give
+  unfolding give
   next-frame-keeps output =
-      unless Kept n (ltb (length output) nextRoom) _ _ k λ room.
-      unless Kept n (ltb maxBusId (lowest (pendingIds (n .slots)))) _ _ k λ some-pending.
+      kept-unless (next-cases output n .case) λ h.
       let id : BusId = record { 0 = lowest (pendingIds (n .slots)) } in
       on-slot-keeps (streamOf id) (givenOut (codeOf id)) (given-out-keeps (codeOf id))
       (λ here kx. kept-given-out (n .counter) (slotOf (streamOf id) n) kx (codeOf id) (and-eq-true-iff _ _ .0 here .0))

@@ -1,11 +1,12 @@
 -- The ways through the next frame: on each of them what is answered is what the definition says.
-use mathlib.Core.Path.{_≡_, ap, _∙_}
+use mathlib.Core.Path.{_≡_, refl, sym, ap, _∙_}
 use mathlib.Core.Bool.{false}
 use mathlib.Core.List.{List}
 use Prim.Native.Nat.{ℕ, _+_, _-_, _≤_, _<_, min}
 use native.Mathlib.Omega.{arith}
 use lib.ListN.{length, getD, set, drop, drop-of-length-le}
 use borrow.Author.Tests.{lt-ltb, le-ltb, le-leb}
+use Rattle.wire.specs.declared.reply.Reply.{Reply}
 use Rattle.wire.specs.declared.reply.Reply.the-variants.{Done, ShortOutput, Nothing}
 use Rattle.wire.specs.declared.ids.BusId.{BusId}
 use Rattle.wire.specs.declared.ids.Parts.{Parts}
@@ -17,8 +18,10 @@ use Rattle.node.specs.declared.Given.{Given}
 use Rattle.node.specs.Slots.{isOf}
 use Rattle.node.specs.Nodes.{withSlots, Outcome, refused, given}
 use Rattle.node.specs.Request.{hasPending}
-use Rattle.node.specs.NextFrame.{nextRoom, pendingCodes, pendingIn, pendingIds, lowest, givenOut, payloadFor, give, nextFrame}
+use Rattle.node.specs.NextFrame.{nextRoom, pendingCodes, pendingIn, pendingIds, lowest, givenOut, payloadFor, give, nextRefusals, nextFrame}
 use Rattle.node.specs.Calls.{Call}
+use Rattle.node.proofs.Cases.{Refuses, here, later}
+use Rattle.node.proofs.next_frame.Cases.{next-cases}
 use Rattle.node.proofs.rollover.Promises.{PromisedWritten, promised-written}
 use Rattle.node.proofs.slots.Finding.{indexOf, step-back, slot-found, slot-stored, some-found}
 use Rattle.node.proofs.next_frame.Lowest.{lowest-at-most, lowest-append, lowest-is-one, lowest-code, no-code, pending-has-slot}
@@ -48,17 +51,18 @@ module _ (output : List ℕ) (n : Node) where
   answers : (o : Outcome) → o ≡ nextFrame output n → Answers (given o) (over (o .bytes) output)
   answers o e = promised-written (Call.nextFrame output) n given output o e
 
+  refused-at : (low : ℕ) → low ≡ lowest (pendingIds (n .slots)) → {r : Reply} → Refuses (nextRefusals output low) r → Answers (given (refused n r)) output
+  refused-at low is-lowest {r} why = answers (refused n r) (sym (next-cases output n .refused-if r (rw (← is-lowest) why)))
+
   pub short-output : length output < nextRoom → Answers (given (refused n ShortOutput)) output
-  unfolding nextFrame
-  short-output h = answers (refused n ShortOutput) (rw (lt-ltb (length output) nextRoom h))
+  short-output h = refused-at _ refl (here (lt-ltb _ _ h))
 
   module _ (room : nextRoom ≤ length output) (low : ℕ) (is-lowest : low ≡ lowest (pendingIds (n .slots))) where
     abbrev id : BusId
     id = record { 0 = low }
 
     pub none-pending : maxBusId < low → Answers (given (refused n Nothing)) output
-    unfolding nextFrame
-    none-pending h = answers (refused n Nothing) (rw (le-ltb (length output) nextRoom room, ← is-lowest, lt-ltb maxBusId low h))
+    none-pending h = refused-at low is-lowest (later (le-ltb _ _ room) (here (lt-ltb _ _ h)))
 
     module _ (in-range : low ≤ maxBusId) (parts : Parts) (apart : parts ≡ split id) (i : ℕ)
         (at-index : i ≡ indexOf (isOf (parts .stream)) (n .slots)) where
@@ -82,11 +86,11 @@ module _ (output : List ℕ) (n : Node) where
             id = id;
             bytes = payloadFor (codeOf id) (getD (n .slots) i d);
           }) (nextFrame output n)
-      unfolding nextFrame give
+      unfolding give
       frame d x made =
           let found = slot-found n (streamOf id) i of-stream d frame-has-slot in
-          rw (le-ltb (length output) nextRoom room, ← is-lowest, le-ltb maxBusId low in-range, ← found, made)
-          (rw (slot-stored n (streamOf id) i of-stream (givenOut (codeOf id)) d frame-has-slot))
+          let taken = next-cases output n .accepted-if (rw (← is-lowest) (record { room = room; pending = in-range })) in
+          rw (taken, ← is-lowest, ← found, made) (rw (slot-stored n (streamOf id) i of-stream (givenOut (codeOf id)) d frame-has-slot))
 
       pub frame-given : (d x : Slot) (len : ℕ) (written : List ℕ)
           → x ≡ givenOut (parts .code) (getD (n .slots) i d)

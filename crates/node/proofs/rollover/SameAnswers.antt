@@ -4,26 +4,23 @@ use native.Mathlib.Omega.{arith}
 use mathlib.Core.Path.{_≡_, refl, sym, ap, _∙_}
 use mathlib.Core.Bool.{Bool, true, false, cond, not, _&&_}
 use mathlib.Core.List.{List, [], _∷_, _++_, map}
-use lib.ListN.{length}
 use lib.Dec.{eqb, ltb}
 use Rattle.wire.specs.declared.ids.Stream.{Stream}
 use Rattle.wire.specs.declared.ids.BusId.{BusId}
 use Rattle.wire.specs.declared.settings.Settings.{Settings}
-use Rattle.wire.specs.Identifiers.{maxBusId, streamOf, codeOf}
-use Rattle.wire.specs.Classes.{carries}
-use Rattle.wire.specs.Frames.{maxPayload, badFrame}
-use Rattle.wire.specs.Settings.{sends, isPlain, isTwoMessage, legal, maxDataReach, maxDeliverDelay}
+use Rattle.wire.specs.Identifiers.{streamOf, codeOf}
+use Rattle.wire.specs.Settings.{sends, isPlain, isTwoMessage, maxDataReach, maxDeliverDelay}
 use Rattle.node.specs.declared.slots.Message.{Message}
 use Rattle.node.specs.declared.slots.Slot.{Slot}
 use Rattle.node.specs.declared.Node.{Node}
-use Rattle.node.specs.Slots.{restamped, isOf, isFree, isReceiver, isSender, withParts, withMessage, some}
-use Rattle.node.specs.Nodes.{fresh, hasSlot, slotOf, onSlot, done}
+use Rattle.node.specs.Slots.{restamped, isOf, isFree, isReceiver, isSender, withParts, withMessage}
+use Rattle.node.specs.Nodes.{fresh, slotOf, onSlot, Outcome, Refusals, unlessRefused, done}
 use Rattle.node.specs.Clock.{period, unbounded, rolled}
-use Rattle.node.specs.SetUp.{setUp, slotFor}
-use Rattle.node.specs.Hear.{clashes, heardBy, deliveredAtOnce, hearAt, hear, hearRoom}
-use Rattle.node.specs.Request.{busy, requested, request}
-use Rattle.node.specs.NextFrame.{pendingIn, pendingIds, lowest, givenOut, payloadFor, give, nextFrame, nextRoom}
-use Rattle.node.specs.Tick.{late, due, holdOver, lapsed, place, tickSlot, ageOf, dueSlots, recordsFrom, recordFrom, tick, tickRoom}
+use Rattle.node.specs.SetUp.{slotFor, setUpRefusals, setUp}
+use Rattle.node.specs.Hear.{heardBy, deliveredAtOnce, hearRefusals, hear}
+use Rattle.node.specs.Request.{requested, requestRefusals, request}
+use Rattle.node.specs.NextFrame.{pendingIn, pendingIds, lowest, givenOut, payloadFor, give, nextRefusals, nextFrame}
+use Rattle.node.specs.Tick.{late, due, holdOver, lapsed, place, tickSlot, ageOf, dueSlots, recordsFrom, recordFrom, tickRefusals, tick}
 use Rattle.node.specs.Calls.{Call, outcome, afterFrom, after, Answer, answerOf, answersFrom, answers, rollSlot, roll, rollOutcome}
 use Rattle.node.specs.Reachable.{longest, KeptSlot, All, Kept}
 use Rattle.node.proofs.Choices.{into}
@@ -32,15 +29,19 @@ use Rattle.node.proofs.kept.LawfulSettings.{Lawful, lawful}
 use Rattle.node.proofs.kept.EachSlot.{held-used}
 use Rattle.node.proofs.kept.EveryCall.{kept-fresh, kept-by, kept}
 
+-- tests that say the same of both nodes
+unless-refused-rolls : (u : Node) (tests : Refusals) (o p : Outcome) → rollOutcome o ≡ p
+    → rollOutcome (unlessRefused u tests o) ≡ unlessRefused (roll u) tests p
+unless-refused-rolls u [] o p e = e
+unless-refused-rolls u ((r, t) ∷ rest) o p e = into rollOutcome t refl (unless-refused-rolls u rest o p e)
+
 -- ── setting up ──
 set-up-rolls : (s : Stream) (settings : Settings) (u : Node) → rollOutcome (setUp s settings u) ≡ setUp s settings (roll u)
 unfolding setUp
 set-up-rolls s settings u =
     rw (some-map (isOf s) rollSlot (λ x. refl) (u .slots), some-map isFree rollSlot (λ x. refl) (u .slots))
     (rw (on-first-map isFree rollSlot (λ x. refl) (λ x. slotFor s settings) (λ x. slotFor s settings) (λ x. refl) (u .slots))
-    (into rollOutcome (not (legal s settings)) refl
-    (into rollOutcome (hasSlot s u) refl
-    (into rollOutcome (not (some isFree (u .slots))) refl refl))))
+    (unless-refused-rolls u (setUpRefusals s settings u) _ _ refl))
 
 -- ── the slot of a stream ──
 pub slot-rolls : (s : Stream) (u : Node) → slotOf s (roll u) ≡ rollSlot (slotOf s u)
@@ -65,24 +66,13 @@ heard-rolls now code payload x =
     (into rollSlot (eqb code 1) (into rollSlot (x .message .held) refl refl)
     (into rollSlot (eqb code 2) (into rollSlot (x .message .held) refl refl) refl))
 
-hear-at-rolls : (x : Slot) (id : BusId) (payload : List ℕ) (u : Node)
-    → rollOutcome (hearAt x id payload u) ≡ hearAt (rollSlot x) id payload (roll u)
-unfolding hearAt
-hear-at-rolls x id payload u =
-    into rollOutcome (not (isReceiver x)) refl
-    (into rollOutcome (not (carries (x .settings .class) (codeOf id))) refl
-    (into rollOutcome (clashes (codeOf id) payload x) refl
-    (ap (λ (n : Node). done n (deliveredAtOnce id payload))
-    (on-slot-rolls (streamOf id) _ _ (heard-rolls (u .counter) (codeOf id) payload) u))))
-
 hear-rolls : (id : BusId) (dlc : ℕ) (payload output : List ℕ) (u : Node)
     → rollOutcome (hear id dlc payload output u) ≡ hear id dlc payload output (roll u)
 unfolding hear
 hear-rolls id dlc payload output u =
     rw (slot-rolls (streamOf id) u)
-    (into rollOutcome (ltb (length output) hearRoom) refl
-    (into rollOutcome (badFrame id dlc (length payload)) refl
-    (hear-at-rolls (slotOf (streamOf id) u) id payload u)))
+    (unless-refused-rolls u (hearRefusals id dlc payload output (slotOf (streamOf id) u)) _ _
+    (ap (λ (n : Node). done n (deliveredAtOnce id payload)) (on-slot-rolls (streamOf id) _ _ (heard-rolls (u .counter) (codeOf id) payload) u)))
 
 -- ── requesting ──
 requested-rolls : (now : ℕ) (payload : List ℕ) (x : Slot)
@@ -96,10 +86,8 @@ request-rolls : (s : Stream) (payload : List ℕ) (u : Node) → rollOutcome (re
 unfolding request
 request-rolls s payload u =
     rw (slot-rolls s u)
-    (into rollOutcome (ltb maxPayload (length payload)) refl
-    (into rollOutcome (not (isSender (slotOf s u))) refl
-    (into rollOutcome (busy (slotOf s u)) refl
-    (ap (λ (n : Node). done n []) (on-slot-rolls s _ _ (requested-rolls (u .counter) payload) u)))))
+    (unless-refused-rolls u (requestRefusals payload (slotOf s u)) _ _
+    (ap (λ (n : Node). done n []) (on-slot-rolls s _ _ (requested-rolls (u .counter) payload) u)))
 
 -- ── the next frame ──
 pending-rolls : (xs : List Slot) → pendingIds (map rollSlot xs) ≡ pendingIds xs
@@ -115,10 +103,8 @@ give-rolls id u =
 next-frame-rolls : (output : List ℕ) (u : Node) → rollOutcome (nextFrame output u) ≡ nextFrame output (roll u)
 unfolding nextFrame
 next-frame-rolls output u =
-    rw (pending-rolls (u .slots))
-    (into rollOutcome (ltb (length output) nextRoom) refl
-    (into rollOutcome (ltb maxBusId (lowest (pendingIds (u .slots)))) refl
-    (give-rolls (record { 0 = lowest (pendingIds (u .slots)) }) u)))
+    let id = lowest (pendingIds (u .slots)) in
+    rw (pending-rolls (u .slots)) (unless-refused-rolls u (nextRefusals output id) _ _ (give-rolls (record { 0 = id }) u))
 
 -- ── a tick ──
 next-rolls : (now : ℕ) → unbounded .next now % period ≡ rolled .next (now % period)
@@ -202,7 +188,7 @@ tick-rolls output u ks =
       ← (due-slots-roll now (u .slots) ks),
       records-roll (dueSlots unbounded now (u .slots)),
     )
-    (into rollOutcome (ltb (length output) tickRoom) refl refl)
+    (unless-refused-rolls u (tickRefusals output) _ _ refl)
 
 -- ── every history ──
 -- what is held is at most this old, far below the period of the counter

@@ -3,17 +3,19 @@ use mathlib.Core.Path.{_≡_}
 use mathlib.Core.Bool.{false}
 use mathlib.Core.List.{List, map}
 use Prim.Native.Nat.{ℕ, _<_, _≤_}
-use borrow.Author.Tests.{lt-ltb, le-ltb}
+use borrow.Author.Tests.{lt-ltb}
 use lib.ListN.{length}
 use Rattle.wire.specs.declared.reply.Reply.the-variants.{Done, ShortOutput}
 use Rattle.wire.specs.Delivered.{over}
 use Rattle.node.specs.declared.Node.{Node}
 use Rattle.node.specs.declared.Delivered.{Delivered}
 use Rattle.node.specs.Slots.{some}
-use Rattle.node.specs.Nodes.{delivered}
+use Rattle.node.specs.Nodes.{done, delivered}
 use Rattle.node.specs.Clock.{Clock, rolled}
-use Rattle.node.specs.Tick.{tickSlot, dueSlots, recordsFrom, tick}
+use Rattle.node.specs.Tick.{tickRoom, tickSlot, dueSlots, recordsFrom, ticked, tick}
 use Rattle.node.specs.Calls.{Call}
+use Rattle.node.proofs.Cases.{here}
+use Rattle.node.proofs.tick.Cases.{tick-cases}
 use Rattle.node.proofs.rollover.Promises.{PromisedWritten, promised-exact}
 use Rattle.node.proofs.tick.Loops.{stirsAt, still-tick}
 
@@ -28,24 +30,22 @@ pub exact-and-unbounded : (n : Node) (output : List ℕ) (r : Delivered) (left :
 exact-and-unbounded n output r left t = promised-exact (Call.tick output) n delivered output t
 
 module _ (clock : Clock) (n : Node) (output : List ℕ) where
-  pub tick-refused : length output < 512 → Ticked clock n output (record { node = n; reply = ShortOutput; written = 0 }) output
-  unfolding tick
-  tick-refused h = let t = lt-ltb (length output) 512 h in (rw t, rw t)
+  pub tick-refused : length output < tickRoom → Ticked clock n output (record { node = n; reply = ShortOutput; written = 0 }) output
+  tick-refused h = let t = tick-cases output clock n .refused-if ShortOutput (here (lt-ltb _ _ h)) in (rw t, rw t)
 
-  module _ (h : 512 ≤ length output) (now : ℕ) (e : now ≡ clock .next (n .counter)) where
+  module _ (room : tickRoom ≤ length output) (now : ℕ) (e : now ≡ clock .next (n .counter)) where
+    taken : tick clock output n ≡ done (ticked clock n) (recordsFrom (dueSlots clock (clock .next (n .counter)) (n .slots)))
+    taken = tick-cases output clock n .accepted-if (record { room = room })
+
     pub tick-done : (node : Node) (written : ℕ) (left : List ℕ)
         → node ≡ record { slots = map (tickSlot clock now) (n .slots); counter = now }
         → (written ≡ length (recordsFrom (dueSlots clock now (n .slots)))) × (left ≡ over (recordsFrom (dueSlots clock now (n .slots))) output)
         → Ticked clock n output (record { node = node; reply = Done; written = written }) left
-    unfolding tick
-    tick-done node written left s w =
-        let t = le-ltb (length output) 512 h in
-        (rw (t, ← e, s, w .0), rw (t, ← e) (w .1))
+    tick-done node written left s w = (rw (taken, ← e, s, w .0), rw (taken, ← e) (w .1))
 
     pub tick-still : some (stirsAt clock now) (n .slots) ≡ false
         → Ticked clock n output (record { node = record { slots = n .slots; counter = now }; reply = Done; written = 0 }) output
-    unfolding tick recordsFrom
+    unfolding recordsFrom
     tick-still s =
-        let t = le-ltb (length output) 512 h in
         let still = still-tick clock now (n .slots) s in
-        (rw (t, ← e, still .0, still .1), rw (t, ← e, still .1))
+        (rw (taken, ← e, still .0, still .1), rw (taken, ← e, still .1))
