@@ -1,24 +1,16 @@
 -- Over every history: the calls of a module answer what the definition says, and its tally is the count of the replies that were seen.
 use mathlib.Core.Path.{_≡_, refl, sym, ap, _∙_}
 use Prim.Native.Nat.{ℕ}
-use mathlib.Core.Bool.{Bool, true, false, cond, not}
 use mathlib.Core.List.{List, [], _∷_}
 use lib.ListN.{length, take, drop}
 use lib.Seq.{take-append-seam}
-use lib.Dec.{ltb}
 use Rattle.wire.specs.declared.ids.Stream.{Stream}
 use Rattle.wire.specs.declared.ids.BusId.{BusId}
 use Rattle.wire.specs.declared.settings.Settings.{Settings}
 use Rattle.wire.specs.declared.reply.Reply.{Reply}
-use Rattle.wire.specs.Settings.{legal}
-use Rattle.wire.specs.Frames.{maxPayload, badFrame}
-use Rattle.wire.specs.Identifiers.{streamOf, codeOf}
-use Rattle.wire.specs.Classes.{carries}
 use Rattle.wire.specs.Delivered.{over}
 use Rattle.node.specs.declared.Node.{Node}
-use Rattle.node.specs.declared.slots.Slot.{Slot}
-use Rattle.node.specs.Slots.{some, isFree, isReceiver, isSender}
-use Rattle.node.specs.Nodes.{Outcome, noId, hasSlot, slotOf}
+use Rattle.node.specs.Nodes.{Outcome, noId}
 use Rattle.node.specs.Clock.{rolled, unbounded}
 use Rattle.node.specs.SetUp as set-up
 use Rattle.node.specs.Hear as hearing
@@ -26,7 +18,12 @@ use Rattle.node.specs.Tick as ticking
 use Rattle.node.specs.Request as requesting
 use Rattle.node.specs.NextFrame as giving
 use Rattle.node.specs.Calls.{Call, setUp, hear, tick, request, nextFrame, outcome, afterFrom, after, Answer, answerOf, answersFrom, answers}
-use Rattle.node.proofs.Rolling.{same-answers}
+use Rattle.node.proofs.Cases.{by-case}
+use Rattle.node.proofs.set_up.Cases.{set-up-cases}
+use Rattle.node.proofs.hear.Cases.{hear-cases}
+use Rattle.node.proofs.tick.Cases.{tick-cases}
+use Rattle.node.proofs.request.Cases.{request-cases}
+use Rattle.node.proofs.rollover.SameAnswers.{same-answers}
 use Rattle.module.specs.declared.tally.Tally.{Tally}
 use Rattle.module.specs.Tallies.{countOf, talliedAll, occurrences, capped}
 use Rattle.module.specs.Histories.{Module, freshModule, moduleStep, moduleAfterFrom, moduleAfter, repliesIn}
@@ -60,10 +57,6 @@ module-counts-unbounded calls r = module-counts calls r ∙ ap (λ (xs : List An
 front : (bytes output : List ℕ) → take (length bytes) (over bytes output) ≡ bytes
 front bytes output = take-append-seam bytes (drop (length bytes) output)
 
-either : (P : Outcome → Type 0) (b : Bool) {x y : Outcome} → P x → P y → P (cond b x y)
-either P true p q = p
-either P false p q = q
-
 -- a call that gives out no frame has no identifier, and one that is lent no output writes nothing
 abbrev NoFrame : Outcome → Type 0
 NoFrame o = o .id ≡ noId
@@ -72,32 +65,16 @@ abbrev Silent : Outcome → Type 0
 Silent o = (o .id ≡ noId) × (o .bytes ≡ [])
 
 set-up-silent : (s : Stream) (settings : Settings) (n : Node) → Silent (set-up.setUp s settings n)
-unfolding set-up.setUp
-set-up-silent s settings n =
-    either Silent (not (legal s settings)) (refl, refl)
-    (either Silent (hasSlot s n) (refl, refl) (either Silent (not (some isFree (n .slots))) (refl, refl) (refl, refl)))
+set-up-silent s settings n = by-case Silent (λ r why. (refl, refl)) (λ h. (refl, refl)) (set-up-cases s settings n .case)
 
 request-silent : (s : Stream) (payload : List ℕ) (n : Node) → Silent (requesting.request s payload n)
-unfolding requesting.request
-request-silent s payload n =
-    either Silent (ltb maxPayload (length payload)) (refl, refl)
-    (either Silent (not (isSender (slotOf s n))) (refl, refl) (either Silent (requesting.busy (slotOf s n)) (refl, refl) (refl, refl)))
-
-hear-at-no-frame : (x : Slot) (id : BusId) (payload : List ℕ) (n : Node) → NoFrame (hearing.hearAt x id payload n)
-unfolding hearing.hearAt
-hear-at-no-frame x id payload n =
-    either NoFrame (not (isReceiver x)) refl
-    (either NoFrame (not (carries (x .settings .class) (codeOf id))) refl (either NoFrame (hearing.clashes (codeOf id) payload x) refl refl))
+request-silent s payload n = by-case Silent (λ r why. (refl, refl)) (λ h. (refl, refl)) (request-cases payload s n .case)
 
 hear-no-frame : (id : BusId) (dlc : ℕ) (payload output : List ℕ) (n : Node) → NoFrame (hearing.hear id dlc payload output n)
-unfolding hearing.hear
-hear-no-frame id dlc payload output n =
-    either NoFrame (ltb (length output) hearing.hearRoom) refl
-    (either NoFrame (badFrame id dlc (length payload)) refl (hear-at-no-frame (slotOf (streamOf id) n) id payload n))
+hear-no-frame id dlc payload output n = by-case NoFrame (λ r why. refl) (λ h. refl) (hear-cases id dlc payload output n .case)
 
 tick-no-frame : (output : List ℕ) (n : Node) → NoFrame (ticking.tick rolled output n)
-unfolding ticking.tick
-tick-no-frame output n = either NoFrame (ltb (length output) ticking.tickRoom) refl refl
+tick-no-frame output n = by-case NoFrame (λ r why. refl) (λ h. refl) (tick-cases output rolled n .case)
 
 -- an answer, by its parts
 answer-is : (o : Outcome) {id : BusId} {bytes : List ℕ} → o .id ≡ id → bytes ≡ o .bytes

@@ -8,5 +8,7 @@ pub mod Request
 pub mod NextFrame
 pub mod Calls
 pub mod Reachable
+pub mod Moments
 pub mod Listing
+pub mod SameAsListing
 pub mod Selection

@@ -12,7 +12,7 @@ use Rattle.node.specs.declared.slots.Pending.{Pending}
 use Rattle.node.specs.declared.slots.Slot.{Slot}
 use Rattle.node.specs.declared.Node.{Node}
 use Rattle.node.specs.Slots.{payloadOf, withParts}
-use Rattle.node.specs.Nodes.{slotOf, onSlot, Outcome, refused}
+use Rattle.node.specs.Nodes.{slotOf, onSlot, Outcome, Refusals, unlessRefused}
 
 -- the longest payload must fit
 abbrev pub nextRoom : ℕ
@@ -71,8 +71,13 @@ give id n =
       bytes = payloadFor (codeOf id) (slotOf (streamOf id) n);
     }
 
+abbrev pub nextRefusals : (output : List ℕ) → (lowestId : ℕ) → Refusals
+nextRefusals output lowestId =
+    (ShortOutput, ltb (length output) nextRoom)
+    ∷ (Nothing, ltb maxBusId lowestId)
+    ∷ []
+
 unfoldable pub nextFrame : (output : List ℕ) → Node → Outcome
 nextFrame output n =
-    cond (ltb (length output) nextRoom) (refused n ShortOutput)
-    (cond (ltb maxBusId (lowest (pendingIds (n .slots)))) (refused n Nothing)
-    (give (record { 0 = lowest (pendingIds (n .slots)) }) n))
+    let id = lowest (pendingIds (n .slots)) in
+    unlessRefused n (nextRefusals output id) (give (record { 0 = id }) n)

@@ -21,9 +21,9 @@ use Rattle.node.specs.Nodes.{delivered}
 use Rattle.node.specs.Hear.{hearRoom, deliveredAtOnce}
 use Rattle.node.specs.Calls.{Call}
 use Rattle.wire.proofs.Frames.{frame-length}
-use Rattle.node.proofs.Finding.{length-of-mapped, indexOf, NoneBefore, none-at-first, found-nowhere, found-here, not-here}
-use Rattle.node.proofs.Heard.{frame-splits, short-output, bad-frame, no-slot, not-mine, misfit, clash, heard}
-use Rattle.node.proofs.Unbounded.{promised-both}
+use Rattle.node.proofs.slots.Finding.{length-of-mapped, indexOf, NoneBefore, none-at-first, found-nowhere, found-here, not-here}
+use Rattle.node.proofs.hear.Ways.{frame-splits, short-output, bad-frame, no-slot, not-mine, misfit, clash, heard}
+use Rattle.node.proofs.rollover.Promises.{promised-both}
 use Rattle.node.proofs.Node.hear.Statement.{statement}
 use Rattle.node.proofs.Node.hear.Tie as tie
 

@@ -10,9 +10,9 @@ use denote.Ref.{now}
 use Rattle.node.specs.declared.slots.Slot.{Slot}
 use Rattle.node.specs.Slots.{isOf}
 use Rattle.node.specs.NextFrame.{pendingIds, lowest}
-use Rattle.node.proofs.Finding.{length-of-mapped, indexOf, NoneBefore, none-at-first, found-nowhere, found-here, not-here}
-use Rattle.node.proofs.NextFrames.{lowest-past-the-end, lowest-step, lowest-passed}
-use Rattle.node.proofs.NextFrames.{short-output, none-pending, frame-has-slot, frame-given}
+use Rattle.node.proofs.slots.Finding.{length-of-mapped, indexOf, NoneBefore, none-at-first, found-nowhere, found-here, not-here}
+use Rattle.node.proofs.next_frame.Ways.{lowest-past-the-end, lowest-step, lowest-passed}
+use Rattle.node.proofs.next_frame.Ways.{short-output, none-pending, frame-has-slot, frame-given}
 use borrow.Author.Needs.{needs}
 use Rattle.node.proofs.Node.next_frame.Statement.{statement}
 use Rattle.node.proofs.Node.next_frame.Tie as tie

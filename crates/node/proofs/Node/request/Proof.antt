@@ -7,8 +7,8 @@ use borrow.Author.Tests.{not-true, not-false}
 use lib.ListN.{length}
 use denote.Ref.{now}
 use Rattle.node.specs.Slots.{isOf}
-use Rattle.node.proofs.Finding.{length-of-mapped, indexOf, NoneBefore, none-at-first, found-nowhere, found-here, not-here}
-use Rattle.node.proofs.Requests.{too-long, no-slot, not-a-sender, busy-sender, request-taken}
+use Rattle.node.proofs.slots.Finding.{length-of-mapped, indexOf, NoneBefore, none-at-first, found-nowhere, found-here, not-here}
+use Rattle.node.proofs.request.Ways.{too-long, no-slot, not-a-sender, busy-sender, request-taken}
 use borrow.Author.Needs.{needs}
 use Rattle.node.proofs.Node.request.Statement.{statement}
 use Rattle.node.proofs.Node.request.Tie as tie

@@ -9,8 +9,8 @@ use Prim.Native.Nat.{_-_, _≤_}
 use lib.ListN.{length}
 use Rattle.wire.specs.Settings.{legal}
 use Rattle.node.specs.Slots.{isFree, isOf}
-use Rattle.node.proofs.Finding.{length-of-mapped, indexOf, NoneBefore, none-at-first, found-nowhere, found-here, not-here}
-use Rattle.node.proofs.SettingUp.{bad-settings, stream-taken, table-full, stream-set}
+use Rattle.node.proofs.slots.Finding.{length-of-mapped, indexOf, NoneBefore, none-at-first, found-nowhere, found-here, not-here}
+use Rattle.node.proofs.set_up.Ways.{bad-settings, stream-taken, table-full, stream-set}
 use borrow.Author.Needs.{needs}
 use Rattle.node.proofs.Node.set_up.Statement.{statement}
 use Rattle.node.proofs.Node.set_up.Tie as tie

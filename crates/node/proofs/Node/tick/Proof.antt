@@ -12,13 +12,13 @@ use lib.ListN.{length, length-set}
 use Rattle.node.specs.declared.slots.Slot.{Slot}
 use Rattle.node.specs.Slots.{nonePending}
 use Rattle.node.specs.Clock.{rolled}
-use Rattle.node.proofs.Finding.{length-of-mapped}
-use Rattle.node.proofs.Stirring.{young-is-still}
-use Rattle.node.proofs.Turns.{Looked, looked-at-first, looked-at-still, looked-at-no-key, looked-at-least, looked-at-more, looked-at-all}
-use Rattle.node.proofs.Turns.{few-looked-at, least-looked-at, Delivering, delivering-at-first, delivering-one-more}
-use Rattle.node.proofs.Turns.{delivering-keeps-length, one-is-left, none-is-found, next-has-room, written-is-small}
-use Rattle.node.proofs.Turns.{all-delivered, Lapsing, lapsing-at-first, lapsing-one-more, lapsing-one-kept, all-lapsed}
-use Rattle.node.proofs.Ticks.{exact-and-unbounded, tick-refused, tick-done, tick-still}
+use Rattle.node.proofs.slots.Finding.{length-of-mapped}
+use Rattle.node.proofs.tick.Stirring.{young-is-still}
+use Rattle.node.proofs.tick.Loops.{Looked, looked-at-first, looked-at-still, looked-at-no-key, looked-at-least, looked-at-more, looked-at-all}
+use Rattle.node.proofs.tick.Loops.{few-looked-at, least-looked-at, Delivering, delivering-at-first, delivering-one-more}
+use Rattle.node.proofs.tick.Loops.{delivering-keeps-length, one-is-left, none-is-found, next-has-room, written-is-small}
+use Rattle.node.proofs.tick.Loops.{all-delivered, Lapsing, lapsing-at-first, lapsing-one-more, lapsing-one-kept, all-lapsed}
+use Rattle.node.proofs.tick.Ways.{exact-and-unbounded, tick-refused, tick-done, tick-still}
 use Rattle.node.proofs.Node.tick.Statement.{statement}
 use Rattle.node.proofs.Node.tick.Tie as tie
 

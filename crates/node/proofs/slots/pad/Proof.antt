@@ -6,7 +6,7 @@ use Prim.Native.Nat.{_-_, _≤_}
 use lib.ListN.{length, replicate, length-set}
 use denote.Ref.{now}
 use Rattle.wire.specs.Frames.{maxPayload}
-use Rattle.node.proofs.Payloads.{filled, copy-next, filled-whole}
+use Rattle.node.proofs.slots.Payloads.{filled, copy-next, filled-whole}
 use Rattle.node.proofs.slots.pad.Statement.{statement}
 use Rattle.node.proofs.slots.pad.Tie as tie
 

@@ -1,7 +1,7 @@
 -- `Message::payload_length` meets its contract: of eight bytes no more than eight are taken.
 use mathlib.Core.Path.{_≡_, sym, _∙_}
 use lib.ListN.{length}
-use Rattle.node.proofs.Payloads.{payload-length}
+use Rattle.node.proofs.slots.Payloads.{payload-length}
 use borrow.Author.Needs.{needs}
 use Rattle.node.proofs.slots.Message.payload_length.Statement.{statement}
 use Rattle.node.proofs.slots.Message.payload_length.Tie as tie

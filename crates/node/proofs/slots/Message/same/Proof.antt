@@ -5,8 +5,8 @@ use mathlib.Core.Path.{_≡_, refl, sym, _∙_}
 use Prim.Native.Nat.{_-_, _≤_}
 use lib.ListN.{length, length-take}
 use denote.Ref.{now}
-use Rattle.node.proofs.Payloads.{Compared, differ-in-length, same-so-far, another-byte, same-to-the-end}
-use Rattle.node.proofs.Payloads.{message-of-another-length, message-of-equal-length}
+use Rattle.node.proofs.slots.Payloads.{Compared, differ-in-length, same-so-far, another-byte, same-to-the-end}
+use Rattle.node.proofs.slots.Payloads.{message-of-another-length, message-of-equal-length}
 use Rattle.node.proofs.slots.Message.same.Statement.{statement}
 use Rattle.node.proofs.slots.Message.same.Tie as tie
 

@@ -3,7 +3,7 @@ use borrow.Author.Needs.{needs}
 use native.Mathlib.Omega.{arith}
 use mathlib.Core.Path.{_∙_}
 use denote.Ref.{now}
-use Rattle.node.proofs.Payloads.{padded-whole}
+use Rattle.node.proofs.slots.Payloads.{padded-whole}
 use Rattle.node.proofs.slots.Slot.hear_data.Statement.{statement}
 use Rattle.node.proofs.slots.Slot.hear_data.Tie as tie
 

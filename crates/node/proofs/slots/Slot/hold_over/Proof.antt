@@ -1,7 +1,7 @@
 -- `Slot::hold_over` meets its contract: a young hold is not over, and for an older one the code is the definition.
 use borrow.Author.Needs.{needs}
 use native.Mathlib.Omega.{arith}
-use Rattle.node.proofs.Stirring.{young-is-held-on, old-is-over}
+use Rattle.node.proofs.tick.Stirring.{young-is-held-on, old-is-over}
 use Rattle.node.proofs.slots.Slot.hold_over.Statement.{statement}
 use Rattle.node.proofs.slots.Slot.hold_over.Tie as tie
 

@@ -2,7 +2,7 @@
 -- that led there.
 use borrow.Author.Needs.{needs}
 use mathlib.Core.Path.{sym, _∙_}
-use Rattle.node.proofs.Lowest.{lowest-code}
+use Rattle.node.proofs.next_frame.Lowest.{lowest-code}
 use Rattle.node.proofs.slots.Slot.lowest_code.Statement.{statement}
 use Rattle.node.proofs.slots.Slot.lowest_code.Tie as tie
 

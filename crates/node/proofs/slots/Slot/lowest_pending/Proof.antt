@@ -1,7 +1,7 @@
 -- `Slot::lowest_pending` meets its contract: the lowest code, joined to the stream.
 use borrow.Author.Tests.{not-true, not-false}
 use native.Mathlib.Omega.{arith}
-use Rattle.node.proofs.Lowest.{no-code, not-set-up, no-stream, joined-code}
+use Rattle.node.proofs.next_frame.Lowest.{no-code, not-set-up, no-stream, joined-code}
 use borrow.Author.Needs.{needs}
 use Rattle.node.proofs.slots.Slot.lowest_pending.Statement.{statement}
 use Rattle.node.proofs.slots.Slot.lowest_pending.Tie as tie

@@ -1,7 +1,7 @@
 -- `Slot::stirs` meets its contract: of the three tests only the one that the code makes can hold.
 use borrow.Author.Needs.{needs}
 use mathlib.Core.Path.{_∙_}
-use Rattle.node.proofs.Stirring.{stirs-sender, stirs-waiting, stirs-ready}
+use Rattle.node.proofs.tick.Stirring.{stirs-sender, stirs-waiting, stirs-ready}
 use Rattle.node.proofs.slots.Slot.stirs.Statement.{statement}
 use Rattle.node.proofs.slots.Slot.stirs.Tie as tie
 

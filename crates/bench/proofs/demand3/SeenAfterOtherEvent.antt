@@ -1,0 +1,207 @@
+-- The line of a 2M stream at a death, at events of other streams, and at an accepted request.
+use Prim.Native.Nat.{ℕ, zero, suc, _≤_}
+use native.Mathlib.Omega.{arith}
+use mathlib.Core.Path.{_≡_, refl, ap, sym, subst, _∙_, fun-ext}
+use mathlib.Core.Bool.{Bool, true, false, not, _&&_, _||_, cond}
+use mathlib.Core.List.{List, [], _∷_, map}
+use lib.ListN.{length}
+use lib.Dec.{T, ltb, eqb, eqb-refl, eqb→eq, nltb→le}
+use Rattle.wire.specs.declared.ids.Stream.{Stream}
+use Rattle.node.specs.declared.slots.Slot.{Slot}
+use Rattle.node.specs.declared.Node.{Node}
+use Rattle.wire.specs.Frames.{maxPayload}
+use Rattle.node.specs.Nodes.{slotOf}
+use Rattle.node.specs.Request.{requested, busy}
+use Rattle.node.specs.Slots.{isReceiver, isSender}
+use Rattle.node.proofs.Choices.{into, either-way}
+use Rattle.one_stream.proofs.Truth.{cond-elim, cond-true, and-l, and-r, both, is-true, is-false, so}
+use Rattle.bench.specs.Bench.{Module, Bench, Book, Frame, moduleAt, isLive, slotAt, now, counts}
+use Rattle.bench.specs.Events.{Event, asks, dies, step, dead, withNode, isAccepted, newBook, asked}
+use Rattle.bench.specs.Lists.{nth}
+use Rattle.bench.specs.SetUp.{isDone}
+use Rattle.bench.proofs.laws.SlotAfterCall.{slot-kept, asking, accepts, ask-own, ask-reply, ask-counter}
+use Rattle.bench.proofs.laws.ModuleAfterEvent.{module-step, Elsewhere, untouched-step, countOf, asFunction, count-is}
+use Rattle.bench.proofs.demand3.ModuleSeen.{toSent, notes, heldIn, viewOf, view, Looks, looks, view-looks}
+use Rattle.bench.proofs.demand3.SeenAfterOwnEvent.{Valid, not-both, receiversOf, made, lineOf, made-path}
+use Rattle.wire.specs.Settings as wire
+use Rattle.one_stream.specs.Sendings as LS
+use Rattle.one_stream.specs.Classes as LC
+use Rattle.one_stream.proofs.Histories as LH
+use Rattle.one_stream.specs.TwoM as LM
+
+module _ (D : LS.Delays) (s : Stream) (me : ℕ) (p : List ℕ) (b : Bench) where
+  -- ── a death ──
+  dead-view : (j i : ℕ) (fs : List Frame)
+      → view D s (moduleAt i (step b (dies j))) fs ≡ cond (eqb i j) (LC.dead (LM.twoM D) (view D s (moduleAt i b) fs))
+      (view D s (moduleAt i b) fs)
+  unfolding view LC.dead
+  dead-view j i fs = ap (λ (m : Module). view D s m fs) (module-step b (dies j) i) ∙ go (eqb i j)
+    where
+      go : (o : Bool)
+          → view D s (cond o (dead (moduleAt i b)) (moduleAt i b)) fs ≡ cond o (LC.dead (LM.twoM D) (view D s (moduleAt i b) fs))
+          (view D s (moduleAt i b) fs)
+      go true = refl
+      go false = refl
+
+  pub dead-live : (j i : ℕ) → isLive i (step b (dies j)) ≡ cond (eqb i j) false (isLive i b)
+  dead-live j i = ap (λ (m : Module). m .live) (module-step b (dies j) i) ∙ into (λ (m : Module). m .live) (eqb i j) refl refl
+
+  pub dead-node : (j i : ℕ) → moduleAt i (step b (dies j)) .node ≡ moduleAt i b .node
+  dead-node j i = ap (λ (m : Module). m .node) (module-step b (dies j) i) ∙ either-way (λ (m : Module). m .node) (eqb i j) refl refl
+
+  module _ (k : Book) (hold : Bool) (j : ℕ) where
+    -- the message's line, but for the counts, the receivers and whether the sender lives
+    abbrev with-book : (ℕ → ℕ) → (ℕ → LC.Receiver (LM.twoM D)) → (up : Bool) → LH.Line (LM.twoM D)
+    with-book counts r up =
+        made D s me p counts (asFunction (k .payloadFrame .since)) (toSent (k .payloadFrame .sendings)) (toSent (k .confirmation .sendings)) r up hold
+
+    die-line : (up : Bool) → cond (eqb me j) false (isLive me b) ≡ up
+        → with-book (countOf b) (LC.step (LM.twoM D) (lineOf D s me p b k hold .state) (LC.die j) .receiver) up
+        ≡ lineOf D s me p (step b (dies j)) k hold
+    unfolding LC.step
+    die-line up e =
+        made-path D s me p (asFunction (k .payloadFrame .since)) (fun-ext (λ i. sym (ap (λ (n : Node). n .counter) (dead-node j i)))) refl refl
+        (fun-ext (λ i. sym (dead-view j i (nth [] i (k .aborts))))) (sym (dead-live j me ∙ e)) refl
+
+    -- another module dies
+    pub die-other-line : (eqb me j ≡ false)
+        → LH.act (LM.twoM D) (lineOf D s me p b k hold) (LH.on (LC.die j)) ≡ lineOf D s me p (step b (dies j)) k hold
+    unfolding LH.act LC.step
+    die-other-line e = die-line (isLive me b) (ap (λ o. cond o false (isLive me b)) e)
+
+    -- the sender dies
+    pub die-own-line : (eqb me j ≡ true)
+        → LH.act (LM.twoM D) (LH.act (LM.twoM D) (lineOf D s me p b k hold) (LH.on (LC.die j))) LH.senderDies
+        ≡ lineOf D s me p (step b (dies j)) k hold
+    unfolding LH.act LC.step
+    die-own-line e = die-line false (ap (λ o. cond o false (isLive me b)) e)
+
+  -- ── events of other streams ──
+  pub else-line : (e : Event) → Elsewhere s b e → (k : Book) (hold : Bool) → lineOf D s me p b k hold ≡ lineOf D s me p (step b e) k hold
+  unfolding view
+  else-line e els k hold =
+      made-path D s me p (asFunction (k .payloadFrame .since)) (fun-ext (λ i. sym (untouched-step s b e els i .counter))) refl refl
+      (fun-ext (λ i. same-view i (nth [] i (k .aborts)))) (sym (untouched-step s b e els me .live)) refl
+    where
+      same-view : (i : ℕ) (fs : List Frame) → view D s (moduleAt i b) fs ≡ view D s (moduleAt i (step b e)) fs
+      same-view i fs = let u = untouched-step s b e els i in rw (u .slot, u .live, u .log) refl
+
+  -- ── an accepted request ──
+  module _ (v : Valid D s me b) (j : ℕ) (t : T (isAccepted j s p b)) where
+    asks-slot : T (accepts p (slotAt s j b))
+    asks-slot = subst T (ask-reply s p (moduleAt j b .node)) (and-r (isLive j b) (isDone (asked j s p b .reply)) t)
+
+    asks-sender : T (isSender (slotAt s j b))
+    asks-sender =
+        let x = slotAt s j b in
+        and-l (isSender x) (not (busy x)) (and-r (not (ltb maxPayload (length p))) (isSender x && not (busy x)) asks-slot)
+
+    pub asks-me : j ≡ me
+    asks-me = v .only j asks-sender
+
+    pub asks-short : length p ≤ 8
+    asks-short =
+        let x = slotAt s j b in
+        nltb→le maxPayload (length p) (and-l (not (ltb maxPayload (length p))) (isSender x && not (busy x)) asks-slot)
+
+    -- the sender was free
+    pub asks-free : T (not (slotAt s j b .message .held))
+    asks-free =
+        let x = slotAt s j b in
+        nor-l (x .message .held) (x .pending .payload || x .pending .confirmation || x .pending .abort)
+        (and-r (isSender x) (not (busy x)) (and-r (not (ltb maxPayload (length p))) (isSender x && not (busy x)) asks-slot))
+      where
+        nor-l : (a b : Bool) → T (not (a || b)) → T (not a)
+        nor-l true b t = t
+        nor-l false b t = tt
+
+    pub asked-slot : slotAt s j (step b (asks j s p)) ≡ requested (countOf b j) p (slotAt s j b)
+    asked-slot =
+        let m = moduleAt j b in
+        let m′ = withNode (asking s p (m .node) .node) m in
+        ap (λ (m : Module). slotOf s (m .node)) (module-step b (asks j s p) j)
+        ∙ (ap (λ (m : Module). slotOf s (m .node))
+        (cond-true (isAccepted j s p b && eqb j j) m′ m (both (isAccepted j s p b) (eqb j j) t (eqb-refl j)))
+        ∙ (ask-own s p (moduleAt j b .node) ∙ cond-true (accepts p (slotAt s j b)) (requested (countOf b j) p (slotAt s j b)) (slotAt s j b) asks-slot))
+
+    -- a sender has no abort pending
+    no-abort : slotAt s j b .pending .abort ≡ false
+    no-abort = is-false (slotAt s j b .pending .abort) (λ y.
+        let k = slot-kept s (moduleAt j b .node) (v .nodes j) in
+        let e = k .pending .abort-received (is-true (slotAt s j b .pending .abort) y) .0 in
+        let role0 = eqb→eq (slotAt s j b .settings .role) 0 (so e) in
+        let role1 = eqb→eq (slotAt s j b .settings .role) 1 (and-r (slotAt s j b .used) (wire.sends (slotAt s j b .settings)) asks-sender) in
+        omega arith)
+
+    -- a module that asks looks the same to the stream, since it does not receive it
+    asks-looks : (i : ℕ)
+        → (let x = slotAt s i b in Looks (isReceiver x) (heldIn (x .message)) (x .pending .abort) (slotAt s i (step b (asks j s p))))
+    unfolding requested
+    asks-looks i =
+        subst (λ (m : Module). Looks (isReceiver x) (heldIn (x .message)) (x .pending .abort) (slotOf s (m .node)))
+        (sym (module-step b (asks j s p) i))
+        (cond-elim (λ (m : Module). Looks (isReceiver x) (heldIn (x .message)) (x .pending .abort) (slotOf s (m .node))) (isAccepted j s p b && eqb i j)
+        (λ y.
+        let e : i ≡ j = eqb→eq i j (and-r (isAccepted j s p b) (eqb i j) y) in
+        let asks = subst (λ q. T (accepts p (slotAt s q b))) (sym e) asks-slot in
+        let slot = ask-own s p (moduleAt i b .node) ∙ cond-true (accepts p x) (requested (countOf b i) p x) x asks in
+        subst (Looks (isReceiver x) (heldIn (x .message)) (x .pending .abort)) (sym slot)
+        (record {
+          receiver = refl;
+          held = λ r. absurd (not-both x r (subst (λ q. T (isSender (slotAt s q b))) (sym e) asks-sender));
+          pending = sym (subst (λ q. slotAt s q b .pending .abort ≡ false) (sym e) no-abort);
+        }))
+        (λ y. looks x))
+      where
+        x : Slot
+        x = slotAt s i b
+
+    asks-same : (i : ℕ)
+        → (moduleAt i (step b (asks j s p)) .live ≡ isLive i b) × (moduleAt i (step b (asks j s p)) .log ≡ moduleAt i b .log) ×
+        (countOf (step b (asks j s p)) i ≡ countOf b i)
+    asks-same i =
+        subst (λ (m : Module). (m .live ≡ isLive i b) × (m .log ≡ moduleAt i b .log) × (m .node .counter ≡ countOf b i))
+        (sym (module-step b (asks j s p) i))
+        (cond-elim (λ (m : Module). (m .live ≡ isLive i b) × (m .log ≡ moduleAt i b .log) × (m .node .counter ≡ countOf b i)) (isAccepted j s p b && eqb i j)
+        (λ y. (refl, refl, ask-counter s p (moduleAt i b .node))) (λ y. (refl, refl, refl)))
+
+    asks-view : (i : ℕ) (fs : List Frame)
+        → LH.withoutFrames (LM.twoM D) (view D s (moduleAt i b) fs) ≡ view D s (moduleAt i (step b (asks j s p))) []
+    unfolding view
+    asks-view i fs =
+        let x = slotAt s i b in
+        sym (view-looks D s (moduleAt i (step b (asks j s p))) [] (asks-looks i)
+        ∙ (ap (λ l. viewOf D l (isReceiver x) (heldIn (x .message)) (x .pending .abort) [] (notes s (moduleAt i (step b (asks j s p)) .log))) (asks-same i .0)
+        ∙ ap (λ log. viewOf D (isLive i b) (isReceiver x) (heldIn (x .message)) (x .pending .abort) [] (notes s log)) (asks-same i .1)))
+
+    pub no-rows : (i : ℕ) (ms : List Module) → nth {A = List Frame} [] i (map (λ (m : Module). []) ms) ≡ []
+    no-rows i [] = refl
+    no-rows zero (m ∷ ms) = refl
+    no-rows (suc i) (m ∷ ms) = no-rows i ms
+
+    -- a line that looks like the bench before, opened, looks like the bench after
+    pub open-line : (L : LH.Line (LM.twoM D)) (rows : List (List Frame)) → L .state .now ≡ countOf b
+        → L .state .receiver ≡ receiversOf D s me p b rows
+        → L .sender ≡ me → L .up ≡ isLive me b
+        → LH.act (LM.twoM D) L (LH.opens p) ≡ lineOf D s me p (step b (asks j s p)) (newBook j b) true
+    unfolding LH.act toSent
+    open-line L rows time recv sender up = λ i. record {
+      state = record {
+        now = (time ∙ fun-ext (λ q. sym (asks-same q .2))) i;
+        requested = (time ∙ fun-ext (λ q. sym (count-is q (b .modules)))) i;
+        message = p;
+        dataSent = LS.never;
+        confSent = LS.never;
+        receiver = receivers i;
+      };
+      sender = sender i;
+      up = (up ∙ sym (asks-same me .0)) i;
+      begun = true;
+      hold = true;
+    }
+      where
+        receivers : _≡_ {A = ℕ → LC.Receiver (LM.twoM D)} (λ q. LH.withoutFrames (LM.twoM D) (L .state .receiver q))
+            (receiversOf D s me p (step b (asks j s p)) (newBook j b .aborts))
+        receivers =
+            ap {B = ℕ → LC.Receiver (LM.twoM D)} (λ (r : ℕ → LC.Receiver (LM.twoM D)) q. LH.withoutFrames (LM.twoM D) (r q)) recv
+            ∙ fun-ext (λ q. asks-view q (nth [] q rows) ∙ ap (view D s (moduleAt q (step b (asks j s p)))) (sym (no-rows q (b .modules))))

@@ -1,0 +1,7 @@
+-- Histories that keep the rules, and histories that break each of them.
+pub mod ExampleHistories
+pub mod MomentTen
+pub mod RuleBreakers
+pub mod Faults
+pub mod EightModules
+pub mod NotEmpty

@@ -1,0 +1,56 @@
+-- `Bench::set_up` meets its contract: where no module is there, nobody answers; else its node does.
+use native.Mathlib.Omega.{arith}
+use mathlib.Core.Path.{_≡_}
+use lib.ListN.{length}
+use borrow.Author.Tests.{lt-ltb, le-ltb}
+use Rattle.node.proofs.slots.Finding.{length-of-mapped}
+use Rattle.node.specs.Calls.{setUp}
+use borrow.Author.Needs.{needs}
+use Rattle.bench_in_code.proofs.CallsInCode.{nobody-answers, answers-there}
+use Rattle.bench_in_code.proofs.Bench.set_up.Statement.{statement}
+use Rattle.bench_in_code.proofs.Bench.set_up.Tie as tie
+
+-- the bench has eight places
+eight : (c : tie.Start) → length (c .args .t1 .modules) ≡ 8
+eight c = search (needs, length-of-mapped)
+
+returns : tie.Need-returns
+returns c = let s = c .before in nobody-answers _ (le-ltb (s .args .who) 8 (omega arith)) _ _ _
+
+mul-m : tie.Need-mul-m
+mul-m c = search needs
+
+element-copy-out-m : tie.Need-element-copy-out-m
+element-copy-out-m c = search needs
+
+set-up-requires : tie.Need-set-up-requires
+set-up-requires c κs = search needs
+
+with-node-requires : tie.Need-with-node-requires
+with-node-requires c κs = search needs
+
+mul-t13 : tie.Need-mul-t13
+mul-t13 c = search needs
+
+element-set-from-self : tie.Need-element-set-from-self
+element-set-from-self c = search needs
+
+returns-2 : tie.Need-returns-2
+returns-2 c =
+    let s = c .before .before .before .before .before in
+    let there = lt-ltb (s .args .who) 8 (omega arith) in
+    answers-there (s .args .t1) (eight s) _ (omega arith) _ _ there (setUp (s .args .stream) (s .args .settings)) _
+    (c .before .set-up .ensures .0) _ (c .with-node .ensures)
+
+pub set-up-spec : {M : Type 1} → statement M
+set-up-spec =
+    tie.close
+    (tie.spec
+    returns
+    mul-m
+    element-copy-out-m
+    set-up-requires
+    with-node-requires
+    mul-t13
+    element-set-from-self
+    returns-2)

@@ -1,0 +1,4 @@
+pub mod LoopsOverStations
+pub mod CallsInCode
+pub mod Unique
+pub mod InStep

@@ -1,0 +1,32 @@
+-- The next frame, by cases: refused, or given out, with what the output and the lowest pending identifier then have.
+use mathlib.Core.List.{List}
+use Prim.Native.Nat.{ℕ, _≤_}
+use borrow.Author.Tests.{ltb-false, le-ltb}
+use lib.ListN.{length}
+use Rattle.wire.specs.Identifiers.{maxBusId}
+use Rattle.node.specs.declared.Node.{Node}
+use Rattle.node.specs.Nodes.{Outcome}
+use Rattle.node.specs.NextFrame.{nextRoom, pendingIds, lowest, give, nextRefusals, nextFrame}
+use Rattle.node.proofs.Cases.{Passes, Cases, cases}
+
+module _ (output : List ℕ) where
+  pub record NextFacts (low : ℕ) : Type 0 where
+    pub room : nextRoom ≤ length output
+    pub pending : low ≤ maxBusId
+
+  pub next-facts : (low : ℕ) → Passes (nextRefusals output low) → NextFacts low
+  next-facts low (room, (pending, end)) = record { room = ltb-false _ _ room; pending = ltb-false _ _ pending }
+
+  pub next-passes : (low : ℕ) → NextFacts low → Passes (nextRefusals output low)
+  next-passes low h = (le-ltb _ _ (h .room), (le-ltb _ _ (h .pending), tt))
+
+  module _ (n : Node) where
+    abbrev pub low : ℕ
+    low = lowest (pendingIds (n .slots))
+
+    abbrev pub given-out : Outcome
+    given-out = give (record { 0 = low }) n
+
+    pub next-cases : Cases n (nextRefusals output low) (NextFacts low) given-out (nextFrame output n)
+    unfolding nextFrame
+    next-cases = cases n (nextRefusals output low) given-out (next-facts low) (next-passes low)
