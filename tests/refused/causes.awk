@@ -2,7 +2,7 @@
 #   fn PATH         a function whose own proof fails, not one that only calls such a function
 #   FILE FACT       a declaration of the crate that does not hold, not one that only rests on such a declaration
 #   unfit MESSAGE   the text does not fit what it is about (a name, a field or a part that is not there, a text that cannot be
-#                   read), so that nothing is said of any fact
+#                   read, a walk through code that has another step), so that nothing is said of any fact
 function inside(path) { return index(path, dir) == 1 ? substr(path, length(dir) + 1) : path }
 
 /^[^ ]+:[0-9]+:[0-9]+: error/ {
@@ -15,7 +15,7 @@ function inside(path) { return index(path, dir) == 1 ? substr(path, length(dir) 
         says = substr(says, RLENGTH + 1)
     } else fact = ""
     if (fact == "" || says ~ /that can be named from here|has no field `|` is not in scope[:;]|follows the signature of/ ||
-        (file ~ /\/Proof\.antt$/ && fact ~ /-spec$/)) {
+        (file ~ /\/Proof\.antt$/ && fact ~ /(-spec|^walk)$/)) {
         print "unfit " file ": " substr($0, index($0, ": error") + 2, 160)
         next
     }
