@@ -1,5 +1,5 @@
 -- Hearing a frame, by cases: refused, or taken with what the slot of its stream and the frame then have.
-use mathlib.Core.Path.{_≡_, ap}
+use mathlib.Core.Path.{_≡_, refl, ap}
 use mathlib.Core.Bool.{true, false, not}
 use mathlib.Core.List.{List}
 use Prim.Native.Nat.{ℕ, _≤_}
@@ -40,4 +40,4 @@ module _ (id : BusId) (dlc : ℕ) (payload output : List ℕ) where
 
     pub hear-cases : Cases n (hearRefusals id dlc payload output slot) (HearFacts slot) heard (hear id dlc payload output n)
     unfolding hear
-    hear-cases = cases n (hearRefusals id dlc payload output slot) heard (hear-facts slot) (hear-passes slot)
+    hear-cases = cases n (hearRefusals id dlc payload output slot) heard refl (hear-facts slot) (hear-passes slot)

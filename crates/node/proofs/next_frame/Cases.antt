@@ -1,4 +1,5 @@
 -- The next frame, by cases: refused, or given out, with what the output and the lowest pending identifier then have.
+use mathlib.Core.Path.{refl}
 use mathlib.Core.List.{List}
 use Prim.Native.Nat.{ℕ, _≤_}
 use borrow.Author.Tests.{ltb-false, le-ltb}
@@ -29,4 +30,4 @@ module _ (output : List ℕ) where
 
     pub next-cases : Cases n (nextRefusals output low) (NextFacts low) given-out (nextFrame output n)
     unfolding nextFrame
-    next-cases = cases n (nextRefusals output low) given-out (next-facts low) (next-passes low)
+    next-cases = cases n (nextRefusals output low) given-out refl (next-facts low) (next-passes low)

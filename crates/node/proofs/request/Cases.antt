@@ -1,5 +1,5 @@
 -- A request, by cases: refused, or taken with what the slot of its stream and the payload then have.
-use mathlib.Core.Path.{_≡_, ap}
+use mathlib.Core.Path.{_≡_, refl, ap}
 use mathlib.Core.Bool.{true, false, not}
 use mathlib.Core.List.{List, []}
 use Prim.Native.Nat.{ℕ, _≤_}
@@ -32,4 +32,4 @@ module _ (payload : List ℕ) where
 
     pub request-cases : Cases n (requestRefusals payload (slotOf s n)) (RequestFacts (slotOf s n)) taken (request s payload n)
     unfolding request
-    request-cases = cases n (requestRefusals payload (slotOf s n)) taken (request-facts (slotOf s n)) (request-passes (slotOf s n))
+    request-cases = cases n (requestRefusals payload (slotOf s n)) taken refl (request-facts (slotOf s n)) (request-passes (slotOf s n))
