@@ -57,9 +57,6 @@ returns c =
     let s = c .before .before .before in
     promised-both (call s) (node s) delivered (output s) (short-output _ _ _ _ _ (c .if1 .taken)) refl refl
 
-bad-frame-requires : tie.Need-bad-frame-requires Inv-loop μ-loop
-bad-frame-requires c κs = search needs
-
 returns-2 : tie.Need-returns-2 Inv-loop μ-loop
 returns-2 c =
     let b = c .before in
@@ -82,9 +79,6 @@ module _ (c : tie.Else2 Inv-loop μ-loop) where
   small : length (payload (start-2 c)) ≤ maxPayload
   small = frame-length (start-2 c .args .id) (start-2 c .args .dlc) (length (payload (start-2 c))) good
 
-split-requires : tie.Need-split-requires Inv-loop μ-loop
-split-requires c κs = search needs
-
 abbrev parts : tie.Start Inv-loop μ-loop → Parts
 parts s = record { reply = Done; stream = streamOf (s .args .id); code = codeOf (s .args .id) }
 
@@ -96,21 +90,6 @@ splits c =
 -- ── the loop ──
 loop-holds : tie.Need-loop-holds Inv-loop μ-loop
 loop-holds c = (omega arith, none-at-first _ _)
-
-mul-s : tie.Need-mul-s Inv-loop μ-loop
-mul-s c = search needs
-
-element-copy-out-s : tie.Need-element-copy-out-s Inv-loop μ-loop
-element-copy-out-s c = search needs
-
-is-of-requires : tie.Need-is-of-requires Inv-loop μ-loop
-is-of-requires c κs = search needs
-
-add-i : tie.Need-add-i Inv-loop μ-loop
-add-i c = search needs
-
-loop-less : tie.Need-loop-less Inv-loop μ-loop
-loop-less c = search needs
 
 loop-again : tie.Need-loop-again Inv-loop μ-loop
 loop-again c =
@@ -163,15 +142,6 @@ module _ (c : tie.Else4 Inv-loop μ-loop) where
   inside : c .before .before .loop .i < length (node start-4 .slots)
   inside = omega (arith, long start-4)
 
-mul-slot : tie.Need-mul-slot Inv-loop μ-loop
-mul-slot c = search needs
-
-element-copy-out-slot : tie.Need-element-copy-out-slot Inv-loop μ-loop
-element-copy-out-slot c = search needs
-
-is-receiver-requires : tie.Need-is-receiver-requires Inv-loop μ-loop
-is-receiver-requires c κs = search needs
-
 returns-4 : tie.Need-returns-4 Inv-loop μ-loop
 returns-4 c =
     let r = c .before in
@@ -187,9 +157,6 @@ place-4 c = c .before .before .before
 
 mine : (c : tie.Else5 Inv-loop μ-loop) → isReceiver (slot (place-4 c)) ≡ true
 mine c = sym (c .before .is-receiver .ensures) ∙ not-false _ (c .if5 .left)
-
-carries-requires : tie.Need-carries-requires Inv-loop μ-loop
-carries-requires c κs = search needs
 
 returns-5 : tie.Need-returns-5 Inv-loop μ-loop
 returns-5 c =
@@ -208,9 +175,6 @@ place-5 c = place-4 (c .before .before)
 fits : (c : tie.Else6 Inv-loop μ-loop) → carries (slot (place-5 c) .settings .class) (codeOf (start-4 (place-5 c) .args .id)) ≡ true
 fits c = sym (rw (splits (place-5 c .before .before .before .before)) at (c .before .carries .ensures)) ∙ not-false _ (c .if6 .left)
 
-clashes-requires : tie.Need-clashes-requires Inv-loop μ-loop
-clashes-requires c κs = search needs
-
 returns-6 : tie.Need-returns-6 Inv-loop μ-loop
 returns-6 c =
     let l = c .before in
@@ -227,19 +191,10 @@ returns-6 c =
 hear-requires : tie.Need-hear-requires Inv-loop μ-loop
 hear-requires c κs = small (place-5 (c .before .before) .before .before .before .before .before)
 
-mul-heard : tie.Need-mul-heard Inv-loop μ-loop
-mul-heard c = search needs
-
-element-set-from-heard : tie.Need-element-set-from-heard Inv-loop μ-loop
-element-set-from-heard c = search needs
-
 deliver-plain-requires : tie.Need-deliver-plain-requires Inv-loop μ-loop
 deliver-plain-requires c κs =
     let b = place-5 (c .before .before .before .before) .before .before .before .before .before in
     (small b, room b)
-
-same-length : tie.Need-same-length Inv-loop μ-loop
-same-length c = search needs
 
 returns-7 : tie.Need-returns-7 Inv-loop μ-loop
 unfolding deliveredAtOnce
@@ -267,28 +222,28 @@ hear-spec =
     Inv-loop
     μ-loop
     returns
-    bad-frame-requires
+    (λ c κs. search needs)
     returns-2
-    split-requires
+    (λ c κs. search needs)
     loop-holds
-    mul-s
-    element-copy-out-s
-    is-of-requires
-    add-i
-    loop-less
+    (λ c. search needs)
+    (λ c. search needs)
+    (λ c κs. search needs)
+    (λ c. search needs)
+    (λ c. search needs)
     loop-again
     returns-3
-    mul-slot
-    element-copy-out-slot
-    is-receiver-requires
+    (λ c. search needs)
+    (λ c. search needs)
+    (λ c κs. search needs)
     returns-4
-    carries-requires
+    (λ c κs. search needs)
     returns-5
-    clashes-requires
+    (λ c κs. search needs)
     returns-6
     hear-requires
-    mul-heard
-    element-set-from-heard
+    (λ c. search needs)
+    (λ c. search needs)
     deliver-plain-requires
-    same-length
+    (λ c. search needs)
     returns-7)

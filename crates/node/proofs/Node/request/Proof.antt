@@ -32,21 +32,6 @@ returns c =
 loop-holds : tie.Need-loop-holds Inv-loop μ-loop
 loop-holds c = (omega arith, none-at-first _ _)
 
-mul-s : tie.Need-mul-s Inv-loop μ-loop
-mul-s c = search needs
-
-element-copy-out-s : tie.Need-element-copy-out-s Inv-loop μ-loop
-element-copy-out-s c = search needs
-
-is-of-requires : tie.Need-is-of-requires Inv-loop μ-loop
-is-of-requires c κs = search needs
-
-add-i : tie.Need-add-i Inv-loop μ-loop
-add-i c = search needs
-
-loop-less : tie.Need-loop-less Inv-loop μ-loop
-loop-less c = search needs
-
 loop-again : tie.Need-loop-again Inv-loop μ-loop
 loop-again c =
     let l = c .before .before .before .before in
@@ -71,15 +56,6 @@ returns-2 c =
     let a = start .args in
     no-slot (a .stream) (now (a .payload)) (a .t1) (f .before .before .if1 .left) _ (found f) (omega (arith, long start))
 
-mul-s-2 : tie.Need-mul-s-2 Inv-loop μ-loop
-mul-s-2 c = search needs
-
-element-copy-out-s-2 : tie.Need-element-copy-out-s-2 Inv-loop μ-loop
-element-copy-out-s-2 c = search needs
-
-is-sender-requires : tie.Need-is-sender-requires Inv-loop μ-loop
-is-sender-requires c κs = search needs
-
 returns-3 : tie.Need-returns-3 Inv-loop μ-loop
 returns-3 c =
     let f = c .before .before .before .before in
@@ -87,9 +63,6 @@ returns-3 c =
     let a = start .args in
     not-a-sender (a .stream) (now (a .payload)) (a .t1) (f .before .before .if1 .left) _ (found f) _ (omega (arith, long start))
     (sym (c .before .is-sender .ensures) ∙ not-true _ (c .if4 .taken))
-
-is-busy-requires : tie.Need-is-busy-requires Inv-loop μ-loop
-is-busy-requires c κs = search needs
 
 returns-4 : tie.Need-returns-4 Inv-loop μ-loop
 returns-4 c =
@@ -99,15 +72,6 @@ returns-4 c =
     busy-sender (a .stream) (now (a .payload)) (a .t1) (f .before .before .if1 .left) _ (found f) _ (omega (arith, long start))
     (sym (c .before .before .before .is-sender .ensures) ∙ not-false _ (c .before .before .if4 .left))
     (sym (c .before .is-busy .ensures) ∙ c .if5 .taken)
-
-requested-requires : tie.Need-requested-requires Inv-loop μ-loop
-requested-requires c κs = search needs
-
-mul-t : tie.Need-mul-t Inv-loop μ-loop
-mul-t c = search needs
-
-element-set-from-t : tie.Need-element-set-from-t Inv-loop μ-loop
-element-set-from-t c = search needs
 
 returns-5 : tie.Need-returns-5 Inv-loop μ-loop
 returns-5 c =
@@ -128,20 +92,20 @@ request-spec =
     μ-loop
     returns
     loop-holds
-    mul-s
-    element-copy-out-s
-    is-of-requires
-    add-i
-    loop-less
+    (λ c. search needs)
+    (λ c. search needs)
+    (λ c κs. search needs)
+    (λ c. search needs)
+    (λ c. search needs)
     loop-again
     returns-2
-    mul-s-2
-    element-copy-out-s-2
-    is-sender-requires
+    (λ c. search needs)
+    (λ c. search needs)
+    (λ c κs. search needs)
     returns-3
-    is-busy-requires
+    (λ c κs. search needs)
     returns-4
-    requested-requires
-    mul-t
-    element-set-from-t
+    (λ c κs. search needs)
+    (λ c. search needs)
+    (λ c. search needs)
     returns-5)

@@ -33,9 +33,6 @@ abbrev μ-loop2 : tie.MeasureT-loop2
 long : (c : tie.Start Inv-loop μ-loop Inv-loop2 μ-loop2) → length (c .args .t1 .slots) ≡ 32
 long c = search (needs, length-of-mapped)
 
-legal-requires : tie.Need-legal-requires Inv-loop μ-loop Inv-loop2 μ-loop2
-legal-requires c κs = search needs
-
 returns : tie.Need-returns Inv-loop μ-loop Inv-loop2 μ-loop2
 returns c =
     let a = c .before .before .args in
@@ -47,21 +44,6 @@ good c = sym (c .before .legal .ensures) ∙ not-false _ (c .if1 .left)
 -- ── the first free slot ──
 loop-holds : tie.Need-loop-holds Inv-loop μ-loop Inv-loop2 μ-loop2
 loop-holds c = (omega arith, none-at-first _ _)
-
-mul-s : tie.Need-mul-s Inv-loop μ-loop Inv-loop2 μ-loop2
-mul-s c = search needs
-
-element-copy-out-s : tie.Need-element-copy-out-s Inv-loop μ-loop Inv-loop2 μ-loop2
-element-copy-out-s c = search needs
-
-is-free-requires : tie.Need-is-free-requires Inv-loop μ-loop Inv-loop2 μ-loop2
-is-free-requires c κs = search needs
-
-add-i : tie.Need-add-i Inv-loop μ-loop Inv-loop2 μ-loop2
-add-i c = search needs
-
-loop-less : tie.Need-loop-less Inv-loop μ-loop Inv-loop2 μ-loop2
-loop-less c = search needs
 
 abbrev start-1 : tie.At-loop Inv-loop μ-loop Inv-loop2 μ-loop2 → tie.Start Inv-loop μ-loop Inv-loop2 μ-loop2
 start-1 c = c .before .before .before
@@ -83,21 +65,6 @@ free c =
 -- ── the stream's slot ──
 loop2-holds : tie.Need-loop2-holds Inv-loop μ-loop Inv-loop2 μ-loop2
 loop2-holds c = (omega arith, none-at-first _ _)
-
-mul-s-2 : tie.Need-mul-s-2 Inv-loop μ-loop Inv-loop2 μ-loop2
-mul-s-2 c = search needs
-
-element-copy-out-s-2 : tie.Need-element-copy-out-s-2 Inv-loop μ-loop Inv-loop2 μ-loop2
-element-copy-out-s-2 c = search needs
-
-is-of-requires : tie.Need-is-of-requires Inv-loop μ-loop Inv-loop2 μ-loop2
-is-of-requires c κs = search needs
-
-add-k : tie.Need-add-k Inv-loop μ-loop Inv-loop2 μ-loop2
-add-k c = search needs
-
-loop2-less : tie.Need-loop2-less Inv-loop μ-loop Inv-loop2 μ-loop2
-loop2-less c = search needs
 
 abbrev start-2 : tie.At-loop2 Inv-loop μ-loop Inv-loop2 μ-loop2 → tie.Start Inv-loop μ-loop Inv-loop2 μ-loop2
 start-2 c = start-1 (c .before .before)
@@ -134,15 +101,6 @@ returns-3 c =
     table-full (a .stream) (a .settings) (a .t1) (good (g .before .before)) _ (found f) (omega (arith, long start)) _ (free g)
     (omega (arith, long start))
 
-set-up-requires : tie.Need-set-up-requires Inv-loop μ-loop Inv-loop2 μ-loop2
-set-up-requires c κs = search needs
-
-mul-s-3 : tie.Need-mul-s-3 Inv-loop μ-loop Inv-loop2 μ-loop2
-mul-s-3 c = search needs
-
-element-set-from-s : tie.Need-element-set-from-s Inv-loop μ-loop Inv-loop2 μ-loop2
-element-set-from-s c = search needs
-
 returns-4 : tie.Need-returns-4 Inv-loop μ-loop Inv-loop2 μ-loop2
 returns-4 c =
     let f = c .before .before .before in
@@ -160,25 +118,25 @@ set-up-spec =
     μ-loop
     Inv-loop2
     μ-loop2
-    legal-requires
+    (λ c κs. search needs)
     returns
     loop-holds
-    mul-s
-    element-copy-out-s
-    is-free-requires
-    add-i
-    loop-less
+    (λ c. search needs)
+    (λ c. search needs)
+    (λ c κs. search needs)
+    (λ c. search needs)
+    (λ c. search needs)
     loop-again
     loop2-holds
-    mul-s-2
-    element-copy-out-s-2
-    is-of-requires
-    add-k
-    loop2-less
+    (λ c. search needs)
+    (λ c. search needs)
+    (λ c κs. search needs)
+    (λ c. search needs)
+    (λ c. search needs)
     loop2-again
     returns-2
     returns-3
-    set-up-requires
-    mul-s-3
-    element-set-from-s
+    (λ c κs. search needs)
+    (λ c. search needs)
+    (λ c. search needs)
     returns-4)
