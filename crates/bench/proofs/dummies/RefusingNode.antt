@@ -20,7 +20,8 @@ use Rattle.node.specs.Reachable.{All}
 use Rattle.node.specs.Clock.{Clock, unbounded}
 use Rattle.node.specs.SetUp.{setUp, slotFor}
 use Rattle.node.specs.Request.{request, requested, busy}
-use Rattle.node.specs.NextFrame.{nextFrame, give, givenOut, lowest, pendingIds, nextRoom}
+use Rattle.node.specs.NextFrame.{nextFrame, give, givenOut, pendingIds, nextRoom}
+use Rattle.node.specs.Selection.{lowestOrAbove}
 use Rattle.node.specs.Tick.{late, due, holdOver, lapsed, tick, tickRoom, ageOf, tickSlot, dueSlots}
 use Rattle.node.specs.Calls.{afterFrom}
 use Rattle.node.proofs.Choices.{unless, contrary, refuted}
@@ -100,8 +101,8 @@ module _ (n : Node) (k : NoneHeld n) where
   unfolding nextFrame give
   none-next-frame output =
       unless NoneHeld n (ltb (length output) nextRoom) _ _ k λ room.
-      unless NoneHeld n (ltb maxBusId (lowest (pendingIds (n .slots)))) _ _ k λ some-pending.
-      let id : BusId = record { 0 = lowest (pendingIds (n .slots)) } in
+      unless NoneHeld n (ltb maxBusId (lowestOrAbove (pendingIds (n .slots)))) _ _ k λ some-pending.
+      let id : BusId = record { 0 = lowestOrAbove (pendingIds (n .slots)) } in
       all-on-first Unheld (isOf (streamOf id)) (givenOut (codeOf id)) (n .slots) k
       (λ here u. unheld-given-out (codeOf id) (slotOf (streamOf id) n) u)
 

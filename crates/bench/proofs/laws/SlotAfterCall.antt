@@ -22,7 +22,8 @@ use Rattle.wire.specs.Settings.{receives, sends, isPlain}
 use Rattle.node.specs.Calls.{hear, tick, request, nextFrame, outcome}
 use Rattle.node.specs.Clock.{unbounded}
 use Rattle.node.specs.Hear.{clashes, heardBy, deliveredAtOnce}
-use Rattle.node.specs.NextFrame.{one, lowest, idsFrom, pendingCodes, pendingIds, pendingIn, payloadCode, give, givenOut, payloadFor}
+use Rattle.node.specs.NextFrame.{one, idsFrom, pendingCodes, pendingIds, pendingIn, payloadCode, give, givenOut, payloadFor}
+use Rattle.node.specs.Selection.{lowestOrAbove}
 use Rattle.node.specs.Nodes.{slotOf, onSlot, Outcome}
 use Rattle.node.specs.Reachable.{KeptSlot, All, Distinct, Kept}
 use Rattle.node.specs.Request.{busy, requested}
@@ -336,7 +337,7 @@ pending-in i (x ∷ xs) d h = go (List·Memᴰ·append-cases (pendingIn x) h) (p
 -- the module has a next frame
 module _ (n : Node) (k : Kept n) (given : T (isDone (giving n .reply))) where
   abbrev low : ℕ
-  low = lowest (pendingIds (n .slots))
+  low = lowestOrAbove (pendingIds (n .slots))
 
   gave-low : (giving n ≡ give (record { 0 = low }) n) × (low ≤ maxBusId)
   gave-low =
@@ -389,7 +390,7 @@ next-other s n =
     (λ h other. first-other (givenOut (codeOf (id n))) (given-out-keeps (codeOf (id n))) s (streamOf (id n)) other (n .slots)) (next-cases lent n .case)
   where
     id : Node → BusId
-    id n = record { 0 = lowest (pendingIds (n .slots)) }
+    id n = record { 0 = lowestOrAbove (pendingIds (n .slots)) }
 
 pub next-counter : (n : Node) → giving n .node .counter ≡ n .counter
 unfolding give

@@ -19,7 +19,8 @@ use Rattle.node.specs.Slots.{isOf, first}
 use Rattle.node.specs.Nodes.{slotOf}
 use Rattle.node.specs.Reachable.{Kept}
 use Rattle.node.specs.NextFrame as NextFrame
-use Rattle.node.specs.NextFrame.{one, idsFrom, payloadCode, pendingCodes, pendingIn, pendingIds, lowest, payloadFor, give}
+use Rattle.node.specs.NextFrame.{one, idsFrom, payloadCode, pendingCodes, pendingIn, pendingIds, payloadFor, give}
+use Rattle.node.specs.Selection.{lowestOrAbove}
 use Rattle.node.proofs.next_frame.Lowest.{lowest-append}
 use Rattle.one_stream.proofs.Truth.{cond-elim, and-r, both, is-true, so}
 use Rattle.bench.specs.SetUp.{isDone}
@@ -34,15 +35,15 @@ small-code x (thePayload t) = cond-elim (λ n. n ≤ 3) (isPlain (x .settings)) 
 small-code x (theConfirmation t) = omega arith
 small-code x (theAbort t) = omega arith
 
-lowest-in-slot : (x : Slot) (stream : ℕ) {c : ℕ} → IsPending x c → lowest (idsFrom stream (pendingCodes x)) ≤ stream * 4 + c
-unfolding lowest
+lowest-in-slot : (x : Slot) (stream : ℕ) {c : ℕ} → IsPending x c → lowestOrAbove (idsFrom stream (pendingCodes x)) ≤ stream * 4 + c
+unfolding lowestOrAbove
 lowest-in-slot x stream p = of p (x .pending .payload) (x .pending .confirmation) (x .pending .abort) (λ t. t) (λ t. t) (λ t. t)
   where
     code : ℕ
     code = payloadCode x
 
     Low : (a b c : Bool) → ℕ → Type 0
-    Low a b c k = lowest (idsFrom stream (one a code ++ one b 1 ++ one c 2)) ≤ stream * 4 + k
+    Low a b c k = lowestOrAbove (idsFrom stream (one a code ++ one b 1 ++ one c 2)) ≤ stream * 4 + k
 
     payload : (a b c : Bool) → T a → Low a b c code
     payload true true c t = omega arith
@@ -68,19 +69,19 @@ lowest-in-slot x stream p = of p (x .pending .payload) (x .pending .confirmation
     of (theAbort t) a b c f g h = abort a b c (h t)
 
 lowest-in-table : (s : Stream) → s .0 ≤ maxStream → (xs : List Slot) {c : ℕ} → T (first (isOf s) xs .used)
-    → IsPending (first (isOf s) xs) c → lowest (pendingIds xs) ≤ s .0 * 4 + c
+    → IsPending (first (isOf s) xs) c → lowestOrAbove (pendingIds xs) ≤ s .0 * 4 + c
 unfolding first pendingIds pendingIn
 lowest-in-table s small [] used p = absurd used
 lowest-in-table s small (x ∷ xs) {c} used p = go (isOf s x) (λ t. t) used p (lowest-in-table s small xs)
   where
     go : (t : Bool) → (T t → T (isOf s x)) → T (cond t x (first (isOf s) xs) .used) → IsPending (cond t x (first (isOf s) xs)) c
-        → (T (first (isOf s) xs .used) → IsPending (first (isOf s) xs) c → lowest (pendingIds xs) ≤ s .0 * 4 + c)
-        → lowest (pendingIn x ++ pendingIds xs) ≤ s .0 * 4 + c
+        → (T (first (isOf s) xs .used) → IsPending (first (isOf s) xs) c → lowestOrAbove (pendingIds xs) ≤ s .0 * 4 + c)
+        → lowestOrAbove (pendingIn x ++ pendingIds xs) ≤ s .0 * 4 + c
     go true own used p rest =
         let stream = eqb→eq (x .stream .0) (s .0) (and-r (x .used) (eqb (x .stream .0) (s .0)) (own tt)) in
         let legal : (x .used && leb (x .stream .0) maxStream) ≡ true =
         is-true _ (both (x .used) (leb (x .stream .0) maxStream) used (so (le-leb (x .stream .0) maxStream (omega arith)))) in
-        let here : lowest (pendingIn x) ≤ s .0 * 4 + c = rw (legal, ← stream) (lowest-in-slot x (x .stream .0) p) in
+        let here : lowestOrAbove (pendingIn x) ≤ s .0 * 4 + c = rw (legal, ← stream) (lowest-in-slot x (x .stream .0) p) in
         omega (arith, lowest-append (pendingIn x) (pendingIds xs))
     go false own used p rest = omega (arith, rest used p, lowest-append (pendingIn x) (pendingIds xs))
 
@@ -98,7 +99,7 @@ module _ (s : Stream) (n : Node) (k : Kept n) where
       let low = lowest-in-table s (stream-small used) (n .slots) used p in
       let small = stream-small used in
       let code = small-code (slotOf s n) p in
-      let there : ltb maxBusId (lowest (pendingIds (n .slots))) ≡ false = le-ltb maxBusId (lowest (pendingIds (n .slots))) (omega arith) in
+      let there : ltb maxBusId (lowestOrAbove (pendingIds (n .slots))) ≡ false = le-ltb maxBusId (lowestOrAbove (pendingIds (n .slots))) (omega arith) in
       rw there (tt, low)
 
 -- ── two nodes ──

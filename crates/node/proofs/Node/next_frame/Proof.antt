@@ -9,7 +9,8 @@ use lib.ListN.{length, drop}
 use denote.Ref.{now}
 use Rattle.node.specs.declared.slots.Slot.{Slot}
 use Rattle.node.specs.Slots.{isOf}
-use Rattle.node.specs.NextFrame.{pendingIds, lowest}
+use Rattle.node.specs.NextFrame.{pendingIds}
+use Rattle.node.specs.Selection.{lowestOrAbove}
 use Rattle.node.proofs.slots.Finding.{length-of-mapped, indexOf, NoneBefore, none-at-first, found-nowhere, found-here, not-here}
 use Rattle.node.proofs.next_frame.Ways.{lowest-past-the-end, lowest-step, lowest-passed}
 use Rattle.node.proofs.next_frame.Ways.{short-output, none-pending, frame-has-slot, frame-given}
@@ -19,7 +20,7 @@ use Rattle.node.proofs.Node.next_frame.Tie as tie
 
 -- `low` is the lowest of what is pending from k on
 abbrev Inv-loop : tie.InvT-loop
-Inv-loop out self low₀ k₀ low k = (k ≤ 32) × (low ≡ lowest (pendingIds (drop k (self .slots))))
+Inv-loop out self low₀ k₀ low k = (k ≤ 32) × (low ≡ lowestOrAbove (pendingIds (drop k (self .slots))))
 
 abbrev μ-loop : tie.MeasureT-loop
 μ-loop out self low₀ k₀ low k = k
@@ -66,7 +67,7 @@ loop-again-2 c =
           (sym (c .before .any .ensures) ∙ c .if2 .left),
     )
 
-is-lowest : (c : tie.After-loop Inv-loop μ-loop Inv-loop2 μ-loop2) → c .before .loop .low ≡ lowest (pendingIds (c .before .before .before .before .args .t1 .slots))
+is-lowest : (c : tie.After-loop Inv-loop μ-loop Inv-loop2 μ-loop2) → c .before .loop .low ≡ lowestOrAbove (pendingIds (c .before .before .before .before .args .t1 .slots))
 is-lowest c =
     let front : c .before .loop .k ≡ 0 = omega arith in
     rw (c .before .loop .inv .1, front)
