@@ -1,5 +1,5 @@
 -- The outcome of a call, by cases: the first of its tests that holds refused it, or none did and it was accepted.
-use mathlib.Core.Path.{_≡_, refl, _∙_}
+use mathlib.Core.Path.{_≡_, refl}
 use mathlib.Core.Bool.{Bool, true, false, cond, not, _&&_, and-eq-true-iff}
 use mathlib.Core.List.{[], _∷_}
 use lib.Dec.{eqb}

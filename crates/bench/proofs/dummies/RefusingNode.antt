@@ -15,7 +15,7 @@ use Rattle.wire.specs.Frames.{maxPayload}
 use Rattle.node.specs.declared.slots.Slot.{Slot}
 use Rattle.node.specs.declared.Node.{Node}
 use Rattle.node.specs.Slots.{nothing, released, abortPending, empty, isFree, isOf, isReceiver, isSender, withParts, withMessage, some}
-use Rattle.node.specs.Nodes.{fresh, slotCount, slotOf, hasSlot}
+use Rattle.node.specs.Nodes.{fresh, slotCount, slotOf, hasSlot, Outcome}
 use Rattle.node.specs.Reachable.{All}
 use Rattle.node.specs.Clock.{Clock, unbounded}
 use Rattle.node.specs.SetUp.{setUp, slotFor}
@@ -24,7 +24,12 @@ use Rattle.node.specs.NextFrame.{nextFrame, give, givenOut, pendingIds, nextRoo
 use Rattle.node.specs.Selection.{lowestOrAbove}
 use Rattle.node.specs.Tick.{late, due, holdOver, lapsed, tick, tickRoom, ageOf, tickSlot, dueSlots}
 use Rattle.node.specs.Calls.{afterFrom}
-use Rattle.node.proofs.Choices.{unless, contrary, refuted}
+use Rattle.node.proofs.Choices.{contrary, refuted}
+use Rattle.node.proofs.Cases.{by-case}
+use Rattle.node.proofs.set_up.Cases.{set-up-cases}
+use Rattle.node.proofs.tick.Cases.{tick-cases}
+use Rattle.node.proofs.request.Cases.{request-cases}
+use Rattle.node.proofs.next_frame.Cases.{next-cases}
 use Rattle.node.proofs.slots.Table.{all-map, all-replicate, all-on-first}
 use Rattle.node.proofs.tick.Tests.{due-tells}
 use Rattle.node.proofs.kept.EachSlot.{not-sender}
@@ -81,37 +86,31 @@ none-due clock now (x ∷ xs) us = rw (not-due (ageOf clock now x) x (us .0)) (n
 -- every call but hear keeps it so
 module _ (n : Node) (k : NoneHeld n) where
   pub none-set-up : (s : Stream) (settings : Settings) → NoneHeld (setUp s settings n .node)
-  unfolding setUp
   none-set-up s settings =
-      unless NoneHeld n (not (legal s settings)) _ _ k λ ok.
-      unless NoneHeld n (hasSlot s n) _ _ k λ new.
-      unless NoneHeld n (not (some isFree (n .slots))) _ _ k λ room.
-      all-on-first Unheld isFree (λ x. slotFor s settings) (n .slots) k (λ free u r. refl)
+      by-case (λ (o : Outcome). NoneHeld (o .node)) (λ r why. k)
+      (λ h. all-on-first Unheld isFree (λ x. slotFor s settings) (n .slots) k (λ free u r. refl)) (set-up-cases s settings n .case)
 
   pub none-request : (s : Stream) (payload : List ℕ) → NoneHeld (request s payload n .node)
-  unfolding request
   none-request s payload =
-      unless NoneHeld n (ltb maxPayload (length payload)) _ _ k λ small.
-      unless NoneHeld n (not (isSender (slotOf s n))) _ _ k λ own.
-      unless NoneHeld n (busy (slotOf s n)) _ _ k λ ready.
-      all-on-first Unheld (isOf s) (requested (n .counter) payload) (n .slots) k
-      (λ here u. unheld-requested (n .counter) payload (slotOf s n) (not-false _ own))
+      by-case (λ (o : Outcome). NoneHeld (o .node)) (λ r why. k)
+      (λ h. all-on-first Unheld (isOf s) (requested (n .counter) payload) (n .slots) k
+      (λ here u. unheld-requested (n .counter) payload (slotOf s n) (h .own)))
+      (request-cases payload s n .case)
 
   pub none-next-frame : (output : List ℕ) → NoneHeld (nextFrame output n .node)
-  unfolding nextFrame give
+  unfolding give
   none-next-frame output =
-      unless NoneHeld n (ltb (length output) nextRoom) _ _ k λ room.
-      unless NoneHeld n (ltb maxBusId (lowestOrAbove (pendingIds (n .slots)))) _ _ k λ some-pending.
       let id : BusId = record { 0 = lowestOrAbove (pendingIds (n .slots)) } in
-      all-on-first Unheld (isOf (streamOf id)) (givenOut (codeOf id)) (n .slots) k
-      (λ here u. unheld-given-out (codeOf id) (slotOf (streamOf id) n) u)
+      by-case (λ (o : Outcome). NoneHeld (o .node)) (λ r why. k)
+      (λ h. all-on-first Unheld (isOf (streamOf id)) (givenOut (codeOf id)) (n .slots) k
+      (λ here u. unheld-given-out (codeOf id) (slotOf (streamOf id) n) u))
+      (next-cases output n .case)
 
   pub none-tick : (clock : Clock) (output : List ℕ) → NoneHeld (tick clock output n .node)
-  unfolding tick
   none-tick clock output =
       let now = clock .next (n .counter) in
-      unless NoneHeld n (ltb (length output) tickRoom) _ _ k λ room.
-      all-map Unheld Unheld (tickSlot clock now) (λ x. unheld-lapsed (ageOf clock now x) x) (n .slots) k
+      by-case (λ (o : Outcome). NoneHeld (o .node)) (λ r why. k)
+      (λ h. all-map Unheld Unheld (tickSlot clock now) (λ x. unheld-lapsed (ageOf clock now x) x) (n .slots) k) (tick-cases output clock n .case)
 
 pub none-set-ups : (part : Part) (n : Node) → NoneHeld n → NoneHeld (afterFrom unbounded n (setUps part))
 none-set-ups [] n k = k

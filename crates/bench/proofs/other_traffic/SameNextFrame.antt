@@ -7,7 +7,7 @@ use mathlib.Core.Logic.{_⊎_, inl, inr}
 use mathlib.Core.Bool.{Bool, true, false, cond, _&&_}
 use mathlib.Core.List.{List, [], _∷_, _++_}
 use lib.Dec.{T, eqb, leb, ltb, eqb→eq}
-use borrow.Author.Tests.{le-leb, le-ltb}
+use borrow.Author.Tests.{le-leb, ltb-false}
 use Rattle.wire.specs.declared.ids.Stream.{Stream}
 use Rattle.wire.specs.declared.ids.BusId.{BusId}
 use Rattle.wire.specs.Identifiers.{maxStream, maxBusId, streamOf, codeOf}
@@ -18,12 +18,13 @@ use Rattle.node.specs.declared.Node.{Node}
 use Rattle.node.specs.Slots.{isOf, first}
 use Rattle.node.specs.Nodes.{slotOf}
 use Rattle.node.specs.Reachable.{Kept}
-use Rattle.node.specs.NextFrame as NextFrame
 use Rattle.node.specs.NextFrame.{one, idsFrom, payloadCode, pendingCodes, pendingIn, pendingIds, payloadFor, give}
 use Rattle.node.specs.Selection.{lowestOrAbove}
 use Rattle.node.proofs.next_frame.Lowest.{lowest-append}
+use Rattle.node.proofs.next_frame.Cases.{next-cases}
 use Rattle.one_stream.proofs.Truth.{cond-elim, and-r, both, is-true, so}
 use Rattle.bench.specs.SetUp.{isDone}
+use Rattle.bench.specs.Events.{lent}
 use Rattle.bench.proofs.laws.SlotAfterCall.{Same, slot-kept, giving, IsPending, thePayload, theConfirmation, theAbort}
 use Rattle.bench.proofs.laws.SlotAfterCall.{stream-of-slot, next-used, next-pending, next-bytes}
 use Rattle.bench.proofs.laws.ModuleAfterEvent.{decide-stream}
@@ -94,13 +95,13 @@ module _ (s : Stream) (n : Node) (k : Kept n) where
 
   -- where a frame is pending, there is a next frame, and it is no higher
   pub lowest-given : {c : ℕ} → T (slotOf s n .used) → IsPending (slotOf s n) c → T (isDone (giving n .reply)) × (giving n .id .0 ≤ s .0 * 4 + c)
-  unfolding NextFrame.nextFrame give
+  unfolding give
   lowest-given {c} used p =
       let low = lowest-in-table s (stream-small used) (n .slots) used p in
       let small = stream-small used in
       let code = small-code (slotOf s n) p in
-      let there : ltb maxBusId (lowestOrAbove (pendingIds (n .slots))) ≡ false = le-ltb maxBusId (lowestOrAbove (pendingIds (n .slots))) (omega arith) in
-      rw there (tt, low)
+      let gave = next-cases lent n .accepted-if (record { room = ltb-false _ _ refl; pending = omega arith }) in
+      rw gave (tt, low)
 
 -- ── two nodes ──
 pub record SameNext (n n′ : Node) : Type 0 where

@@ -4,7 +4,7 @@ use mathlib.Core.List.{List, [], _∷_, _++_}
 use Rattle.node.specs.declared.Node.{Node}
 use Rattle.node.specs.Nodes.{fresh}
 use Rattle.node.specs.Clock.{Clock}
-use Rattle.node.specs.Calls.{Call, outcome, afterFrom, after}
+use Rattle.node.specs.Calls.{Call, outcome, afterFrom}
 use Rattle.node.specs.Refused.{CallsGiveBack}
 
 one-call-more : (clock : Clock) (c : Call) (n : Node) (h : List Call)

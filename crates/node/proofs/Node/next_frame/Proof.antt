@@ -2,7 +2,6 @@
 -- one, and each return cites the way through the definition.
 use native.Mathlib.Omega.{arith}
 use mathlib.Core.Path.{_≡_, sym, _∙_}
-use mathlib.Core.Logic.{⊎-elim}
 use Prim.Native.Nat.{_-_, _≤_, _<_}
 use mathlib.Core.List.{List}
 use lib.ListN.{length, drop}
@@ -11,7 +10,7 @@ use Rattle.node.specs.declared.slots.Slot.{Slot}
 use Rattle.node.specs.Slots.{isOf}
 use Rattle.node.specs.NextFrame.{pendingIds}
 use Rattle.node.specs.Selection.{lowestOrAbove}
-use Rattle.node.proofs.slots.Finding.{length-of-mapped, indexOf, NoneBefore, none-at-first, found-nowhere, found-here, not-here}
+use Rattle.node.proofs.slots.Finding.{length-of-mapped, indexOf, NoneBefore, none-at-first, not-here, search-ends}
 use Rattle.node.proofs.next_frame.Ways.{lowest-past-the-end, lowest-step, lowest-passed}
 use Rattle.node.proofs.next_frame.Ways.{short-output, none-pending, frame-has-slot, frame-given}
 use borrow.Author.Needs.{needs}
@@ -27,7 +26,7 @@ abbrev μ-loop : tie.MeasureT-loop
 
 -- no slot before i is the stream's
 abbrev Inv-loop2 : tie.InvT-loop2
-Inv-loop2 out self low k id stream code i₀ i = (i ≤ 32) × NoneBefore (isOf stream) (self .slots) i
+Inv-loop2 out self low k id stream code i₀ i = NoneBefore (isOf stream) (self .slots) i
 
 abbrev μ-loop2 : tie.MeasureT-loop2
 μ-loop2 out self low k id stream code i₀ i = 32 - i
@@ -81,7 +80,7 @@ returns-2 c =
 
 -- ── the slot of its stream ──
 loop2-holds : tie.Need-loop2-holds Inv-loop μ-loop Inv-loop2 μ-loop2
-loop2-holds c = (omega arith, none-at-first _ _)
+loop2-holds c = none-at-first _ _
 
 -- the test that past the first loop some frame is pending, seen from the second loop
 abbrev pending-2 : tie.At-loop2 Inv-loop μ-loop Inv-loop2 μ-loop2 → tie.Else3 Inv-loop μ-loop Inv-loop2 μ-loop2
@@ -93,7 +92,7 @@ start-2 c = pending-2 c .before .before .before .before .before
 loop2-again : tie.Need-loop2-again Inv-loop μ-loop Inv-loop2 μ-loop2
 loop2-again c =
     let l = c .before .before .before .before in
-    (omega arith, not-here _ _ _ _ (omega (arith, long (start-2 l))) (l .loop2 .inv .1) (sym (c .before .is-of .ensures) ∙ c .if4 .left))
+    not-here _ _ _ _ (omega (arith, long (start-2 l))) (l .loop2 .inv) (sym (c .before .is-of .ensures) ∙ c .if4 .left)
 
 -- the loop ends at the stream's slot
 module _ (c : tie.Left-loop2 Inv-loop μ-loop Inv-loop2 μ-loop2) where
@@ -102,11 +101,8 @@ module _ (c : tie.Left-loop2 Inv-loop μ-loop Inv-loop2 μ-loop2) where
 
   at-index : c .before .loop2 .i ≡ indexOf (isOf (c .before .before .before .split .result .stream)) slots
   at-index =
-      let none = c .before .loop2 .inv .1 in
-      ⊎-elim
-      (λ w. found-nowhere _ _ _ (omega (arith, long (start-2 (c .before)))) none)
-      (λ w. found-here _ _ _ _ (omega (arith, long (start-2 (c .before)))) none (sym (w .2 .ensures) ∙ w .3 .taken))
-      (c .loop2-test .came)
+      let all = long (start-2 (c .before)) in
+      search-ends _ _ _ _ (c .before .loop2 .inv) (λ w. omega arith) (λ w. (omega arith, sym (w .2 .ensures) ∙ w .3 .taken)) (c .loop2-test .came)
 
   inside : c .before .loop2 .i < 32
   inside =

@@ -1,13 +1,12 @@
 -- `Node::request` meets its contract: the loop finds the slot's index, and each return cites the way through the definition.
 use native.Mathlib.Omega.{arith}
 use mathlib.Core.Path.{_≡_, sym, _∙_}
-use mathlib.Core.Logic.{⊎-elim}
-use Prim.Native.Nat.{_-_, _≤_}
+use Prim.Native.Nat.{_-_}
 use borrow.Author.Tests.{not-true, not-false}
 use lib.ListN.{length}
 use denote.Ref.{now}
 use Rattle.node.specs.Slots.{isOf}
-use Rattle.node.proofs.slots.Finding.{length-of-mapped, indexOf, NoneBefore, none-at-first, found-nowhere, found-here, not-here}
+use Rattle.node.proofs.slots.Finding.{length-of-mapped, indexOf, NoneBefore, none-at-first, not-here, search-ends}
 use Rattle.node.proofs.request.Ways.{too-long, no-slot, not-a-sender, busy-sender, request-taken}
 use borrow.Author.Needs.{needs}
 use Rattle.node.proofs.Node.request.Statement.{statement}
@@ -15,7 +14,7 @@ use Rattle.node.proofs.Node.request.Tie as tie
 
 -- no slot before i is the stream's
 abbrev Inv-loop : tie.InvT-loop
-Inv-loop stream payload self i₀ i = (i ≤ 32) × NoneBefore (isOf stream) (self .slots) i
+Inv-loop stream payload self i₀ i = NoneBefore (isOf stream) (self .slots) i
 
 abbrev μ-loop : tie.MeasureT-loop
 μ-loop stream payload self i₀ i = 32 - i
@@ -30,24 +29,20 @@ returns c =
     too-long (a .stream) (now (a .payload)) (a .t1) (c .if1 .taken)
 
 loop-holds : tie.Need-loop-holds Inv-loop μ-loop
-loop-holds c = (omega arith, none-at-first _ _)
+loop-holds c = none-at-first _ _
 
 loop-again : tie.Need-loop-again Inv-loop μ-loop
 loop-again c =
     let l = c .before .before .before .before in
     let start = l .before .before .before in
-    (omega arith, not-here _ _ _ _ (omega (arith, long start)) (l .loop .inv .1) (sym (c .before .is-of .ensures) ∙ c .if2 .left))
+    not-here _ _ _ _ (omega (arith, long start)) (l .loop .inv) (sym (c .before .is-of .ensures) ∙ c .if2 .left)
 
 -- the loop ends at the stream's slot
 found : (c : tie.Left-loop Inv-loop μ-loop)
     → c .before .loop .i ≡ indexOf (isOf (c .before .before .before .before .args .stream)) (c .before .before .before .before .args .t1 .slots)
 found c =
-    let l = c .before in
-    let start = l .before .before .before in
-    ⊎-elim
-    (λ w. found-nowhere _ _ _ (omega (arith, long start)) (l .loop .inv .1))
-    (λ w. found-here _ _ _ _ (omega (arith, long start)) (l .loop .inv .1) (sym (w .2 .ensures) ∙ w .3 .taken))
-    (c .loop-test .came)
+    let all = long (c .before .before .before .before) in
+    search-ends _ _ _ _ (c .before .loop .inv) (λ w. omega arith) (λ w. (omega arith, sym (w .2 .ensures) ∙ w .3 .taken)) (c .loop-test .came)
 
 returns-2 : tie.Need-returns-2 Inv-loop μ-loop
 returns-2 c =

@@ -5,14 +5,10 @@ use borrow.Author.Needs.{needs}
 use borrow.Author.Tests.{not-true}
 use native.Mathlib.Omega.{arith}
 use mathlib.Core.Path.{_≡_, sym, _∙_}
-use mathlib.Core.Bool.{false}
-use mathlib.Core.List.{[]}
 use Prim.Native.Nat.{_+_, _≤_}
 use lib.ListN.{length, length-set}
-use Rattle.node.specs.declared.slots.Slot.{Slot}
-use Rattle.node.specs.Slots.{nonePending}
 use Rattle.node.specs.Clock.{rolled}
-use Rattle.node.proofs.slots.Finding.{length-of-mapped}
+use Rattle.node.proofs.slots.Finding.{noSlot, length-of-mapped}
 use Rattle.node.proofs.tick.Stirring.{young-is-still}
 use Rattle.node.proofs.tick.Loops.{Looked, looked-at-first, looked-at-still, looked-at-no-key, looked-at-least, looked-at-more, looked-at-all}
 use Rattle.node.proofs.tick.Loops.{few-looked-at, least-looked-at, Delivering, delivering-at-first, delivering-one-more}
@@ -21,17 +17,6 @@ use Rattle.node.proofs.tick.Loops.{all-delivered, Lapsing, lapsing-at-f
 use Rattle.node.proofs.tick.Ways.{exact-and-unbounded, tick-refused, tick-done, tick-still}
 use Rattle.node.proofs.Node.tick.Statement.{statement}
 use Rattle.node.proofs.Node.tick.Tie as tie
-
--- what the code reads past the end of an array of slots
-abbrev noSlot : Slot
-noSlot =
-    record {
-      stream = record { 0 = 0 };
-      settings = record { rd = 0; dc = 0; ra = 0; dd = 0; role = 0; class = 0 };
-      message = record { stamp = 0; len = 0; held = false; confirmed = false; bytes = [] };
-      pending = nonePending;
-      used = false;
-    }
 
 abbrev Inv-loop : tie.InvT-loop
 Inv-loop out self now keys₀ stirring₀ any₀ left₀ place₀ best₀ i₀ keys stirring any left place best i =
