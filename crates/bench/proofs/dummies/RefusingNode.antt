@@ -1,28 +1,23 @@
 -- A node that hears no frame: no receive slot of it ever holds a message, so none is ever due. Only hearing makes a receiver hold one.
 use Prim.Native.Nat.{ℕ}
 use mathlib.Core.Path.{_≡_, refl}
-use mathlib.Core.Bool.{Bool, true, false, cond, not, and-eq-true-iff}
+use mathlib.Core.Bool.{Bool, true, false, cond, and-eq-true-iff}
 use mathlib.Core.List.{List, [], _∷_}
-use lib.ListN.{length}
-use lib.Dec.{ltb}
-use borrow.Author.Tests.{not-false}
 use Rattle.wire.specs.declared.ids.Stream.{Stream}
 use Rattle.wire.specs.declared.ids.BusId.{BusId}
 use Rattle.wire.specs.declared.settings.Settings.{Settings}
-use Rattle.wire.specs.Settings.{legal}
-use Rattle.wire.specs.Identifiers.{maxBusId, streamOf, codeOf}
-use Rattle.wire.specs.Frames.{maxPayload}
+use Rattle.wire.specs.Identifiers.{streamOf, codeOf}
 use Rattle.node.specs.declared.slots.Slot.{Slot}
 use Rattle.node.specs.declared.Node.{Node}
-use Rattle.node.specs.Slots.{nothing, released, abortPending, empty, isFree, isOf, isReceiver, isSender, withParts, withMessage, some}
-use Rattle.node.specs.Nodes.{fresh, slotCount, slotOf, hasSlot, Outcome}
+use Rattle.node.specs.Slots.{nothing, released, abortPending, empty, isFree, isOf, isReceiver, isSender, withParts, withMessage}
+use Rattle.node.specs.Nodes.{fresh, slotCount, slotOf, Outcome}
 use Rattle.node.specs.Reachable.{All}
 use Rattle.node.specs.Clock.{Clock, unbounded}
 use Rattle.node.specs.SetUp.{setUp, slotFor}
-use Rattle.node.specs.Request.{request, requested, busy}
-use Rattle.node.specs.NextFrame.{nextFrame, give, givenOut, pendingIds, nextRoom}
+use Rattle.node.specs.Request.{request, requested}
+use Rattle.node.specs.NextFrame.{nextFrame, give, givenOut, pendingIds}
 use Rattle.node.specs.Selection.{lowestOrAbove}
-use Rattle.node.specs.Tick.{late, due, holdOver, lapsed, tick, tickRoom, ageOf, tickSlot, dueSlots}
+use Rattle.node.specs.Tick.{late, due, holdOver, lapsed, tick, ageOf, tickSlot, dueSlots}
 use Rattle.node.specs.Calls.{afterFrom}
 use Rattle.node.proofs.Choices.{contrary, refuted}
 use Rattle.node.proofs.Cases.{by-case}

@@ -2,15 +2,15 @@
 -- of it that another node gives out, which has the same slot for this stream and others besides.
 use Prim.Native.Nat.{ℕ, _+_, _*_, _/_, _≤_}
 use native.Mathlib.Omega.{arith}
-use mathlib.Core.Path.{_≡_, ap, sym, subst, _∙_}
+use mathlib.Core.Path.{_≡_, refl, ap, sym, subst, _∙_}
 use mathlib.Core.Logic.{_⊎_, inl, inr}
 use mathlib.Core.Bool.{Bool, true, false, cond, _&&_}
 use mathlib.Core.List.{List, [], _∷_, _++_}
-use lib.Dec.{T, eqb, leb, ltb, eqb→eq}
+use lib.Dec.{T, eqb, leb, eqb→eq}
 use borrow.Author.Tests.{le-leb, ltb-false}
 use Rattle.wire.specs.declared.ids.Stream.{Stream}
 use Rattle.wire.specs.declared.ids.BusId.{BusId}
-use Rattle.wire.specs.Identifiers.{maxStream, maxBusId, streamOf, codeOf}
+use Rattle.wire.specs.Identifiers.{maxStream, streamOf, codeOf}
 use Rattle.wire.specs.Settings.{isPlain}
 use Rattle.wire.proofs.LegalSettings.{legal-tells}
 use Rattle.node.specs.declared.slots.Slot.{Slot}
@@ -100,7 +100,7 @@ module _ (s : Stream) (n : Node) (k : Kept n) where
       let low = lowest-in-table s (stream-small used) (n .slots) used p in
       let small = stream-small used in
       let code = small-code (slotOf s n) p in
-      let gave = next-cases lent n .accepted-if (record { room = ltb-false _ _ refl; pending = omega arith }) in
+      let gave = next-cases lent n .accepted-if (record { room = ltb-false 512 8 refl; pending = omega arith }) in
       rw gave (tt, low)
 
 -- ── two nodes ──

@@ -1,5 +1,5 @@
 -- The identifier that next frame gives out is pending and none that is pending is lower; it answers Nothing exactly where no frame is pending.
-use mathlib.Core.Path.{_≡_, refl, sym, subst, ap}
+use mathlib.Core.Path.{_≡_, refl, ap}
 use mathlib.Core.Bool.{Bool, true, false}
 use mathlib.Core.List.{List, [], _∷_, List·Memᴰ}
 use Prim.Native.Nat.{ℕ, _≤_}

@@ -9,10 +9,10 @@ use Prim.Native.Nat.{ℕ, _+_, _*_, _/_, _≤_, _<_, min}
 use native.Mathlib.Omega.{arith}
 use lib.Dec.{leb, ltb}
 use lib.ListN.{length}
-use borrow.Author.Tests.{leb-true, leb-false, le-leb, lt-leb, le-ltb, ltb-true, ltb-false, eq-eqb}
+use borrow.Author.Tests.{leb-true, leb-false, le-leb, lt-leb, le-ltb, eq-eqb}
 use Rattle.wire.specs.Identifiers.{maxStream, maxBusId, maxCode, streamOf, join}
 use Rattle.wire.specs.Settings.{isPlain}
-use Rattle.wire.specs.declared.reply.Reply.the-variants.{Done, ShortOutput, Nothing}
+use Rattle.wire.specs.declared.reply.Reply.the-variants.{ShortOutput, Nothing}
 use Rattle.node.specs.declared.slots.Slot.{Slot}
 use Rattle.node.specs.declared.Node.{Node}
 use Rattle.node.specs.Slots.{isOf, some}
