@@ -71,6 +71,7 @@ give id n =
       bytes = payloadFor (codeOf id) (slotOf (streamOf id) n);
     }
 
+-- what refuses to give a frame out, the lowest identifier being this
 abbrev pub nextRefusals : (output : List ℕ) → (lowestId : ℕ) → Refusals
 nextRefusals output lowestId =
     (ShortOutput, ltb (length output) nextRoom)
