@@ -76,6 +76,7 @@ give id n =
       bytes = payloadFor (codeOf id) (slotOf (streamOf id) n);
     }
 
+-- what refuses to give a frame out, these being pending
 abbrev pub nextRefusals : (output : List ℕ) → (pending : List ℕ) → Refusals
 nextRefusals output pending =
     (ShortOutput, ltb (length output) nextRoom)

@@ -2,38 +2,36 @@
 -- the counter alone. Everything that is proved of the bench knows the calls by these laws.
 use Prim.Native.Nat.{ℕ, _+_, _-_, _*_, _/_, _%_, _≤_}
 use native.Mathlib.Omega.{arith}
-use borrow.Author.Tests.{le-ltb}
 use mathlib.Core.Path.{_≡_, refl, ap, sym, subst, _∙_}
 use mathlib.Core.Logic.{_⊎_, inl, inr}
-use mathlib.Core.Bool.{Bool, true, false, not, _&&_, _||_, cond}
+use mathlib.Core.Bool.{Bool, true, false, _&&_, _||_, cond}
 use mathlib.Core.List.{List, [], _∷_, _++_, map}
 use lib.ListN.{length}
-use lib.Dec.{T, ltb, leb, eqb, eqb-refl, eqb→eq}
-use lib.Dec.{nltb→le}
+use lib.Dec.{T, leb, eqb, eqb-refl, eqb→eq}
 use mathlib.Core.List.{List·Memᴰ, List·Memᴰ·not-nil, List·Memᴰ·cases-cons, List·Memᴰ·append-cases}
 use Rattle.wire.specs.declared.ids.Stream.{Stream}
 use Rattle.wire.specs.declared.ids.BusId.{BusId}
 use Rattle.node.specs.declared.slots.Slot.{Slot}
 use Rattle.node.specs.declared.Node.{Node}
-use Rattle.wire.specs.Classes.{carries}
-use Rattle.wire.specs.Frames.{maxPayload, badFrame}
 use Rattle.wire.specs.Identifiers.{maxStream, maxBusId, streamOf, codeOf}
 use Rattle.wire.specs.Settings.{receives, sends, isPlain}
 use Rattle.node.specs.Calls.{hear, tick, request, nextFrame, outcome}
 use Rattle.node.specs.Clock.{unbounded}
-use Rattle.node.specs.Hear.{clashes, heardBy, deliveredAtOnce}
+use Rattle.node.specs.Hear.{heardBy, deliveredAtOnce}
 use Rattle.node.specs.NextFrame.{one, idsFrom, pendingCodes, pendingIds, pendingIn, payloadCode, give, givenOut, payloadFor}
 use Rattle.node.specs.Selection.{lowestOrAbove}
 use Rattle.node.specs.Nodes.{slotOf, onSlot, Outcome}
 use Rattle.node.specs.Reachable.{KeptSlot, All, Distinct, Kept}
-use Rattle.node.specs.Request.{busy, requested}
-use Rattle.node.specs.Slots.{empty, payloadOf, isOf, isReceiver, isSender, first, onFirst, some}
+use Rattle.node.specs.Request.{requested}
+use Rattle.node.specs.Slots.{empty, payloadOf, isOf, first, onFirst, some}
 use Rattle.node.specs.Tick.{due, tickSlot, dueSlots, ticked}
-use Rattle.node.proofs.Choices.{either-way}
+use Rattle.node.proofs.Choices.{either-way, refuted}
 use Rattle.node.proofs.Cases.{by-case}
-use Rattle.node.proofs.hear.Cases.{HearFacts, hear-cases}
+use Rattle.node.proofs.hear.Cases.{HearFacts, takes-says, takes-back, hear-cases}
+use Rattle.node.proofs.hear.Cases as node-hear
 use Rattle.node.proofs.tick.Cases.{tick-cases}
-use Rattle.node.proofs.request.Cases.{RequestFacts, request-cases}
+use Rattle.node.proofs.request.Cases.{RequestFacts, accepts-says, accepts-back, request-cases}
+use Rattle.node.proofs.request.Cases as node-request
 use Rattle.node.proofs.next_frame.Cases.{next-cases}
 use Rattle.node.proofs.tick.Ascending.{Before, Ascends, due-ascend, only-due, due-of-stream}
 use Rattle.node.proofs.kept.EachSlot.{kept-empty}
@@ -99,23 +97,13 @@ slot-kept s n k = all-first (KeptSlot (n .counter)) (isOf s) (kept-empty (n .cou
 -- ── hearing ──
 -- the slot takes the frame
 abbrev pub takes : BusId → (dlc : ℕ) → List ℕ → Slot → Bool
-takes id dlc p x =
-    not (badFrame id dlc (length p)) && (isReceiver x && (carries (x .settings .class) (codeOf id) && not (clashes (codeOf id) p x)))
+takes id dlc p x = node-hear.takes id dlc p x
 
 abbrev pub hearing : BusId → List ℕ → Node → Outcome
 hearing id p n = outcome unbounded (hear id (length p) p lent) n
 
-takes-says : (id : BusId) (p : List ℕ) (x : Slot) → T (takes id (length p) p x) → HearFacts id (length p) p lent x
-takes-says id p x t =
-    go (badFrame id (length p) (length p)) (isReceiver x) (carries (x .settings .class) (codeOf id)) (clashes (codeOf id) p x) refl refl refl refl t
-  where
-    go : (a b c d : Bool) → badFrame id (length p) (length p) ≡ a → isReceiver x ≡ b → carries (x .settings .class) (codeOf id) ≡ c
-        → clashes (codeOf id) p x ≡ d → T (not a && (b && (c && not d))) → HearFacts id (length p) p lent x
-    go false true true false good own fits agrees t = record { room = omega arith; good = good; own = own; fits = fits; agrees = agrees }
-    go true b c d good own fits agrees t = absurd t
-    go false false c d good own fits agrees t = absurd t
-    go false true false d good own fits agrees t = absurd t
-    go false true true true good own fits agrees t = absurd t
+facts : (id : BusId) (p : List ℕ) (x : Slot) → takes id (length p) p x ≡ true → HearFacts id (length p) p lent x
+facts id p x t = takes-says id (length p) p lent x (omega arith) t
 
 -- what hearing leaves in the node, and what it writes
 pub hears : (id : BusId) (p : List ℕ) (n : Node) → (let s = streamOf id in
@@ -125,15 +113,15 @@ hears id p n =
     let x = slotOf (streamOf id) n in
     let t = takes id (length p) p x in
     let law = hear-cases id (length p) p lent n in
-    by-case
+    by-case {n = n} {result = node-hear.heard id (length p) p lent n}
     (λ (o : Outcome).
     (o .node ≡ cond t (onSlot (streamOf id) (heardBy (n .counter) (codeOf id) p) n) n) × (o .bytes ≡ cond t (deliveredAtOnce id p) []))
-    (λ r why. let no : t ≡ false = is-false t (λ h. law .not-both r why (takes-says id p x h)) in rw no (refl, refl))
-    (λ h. rw (h .good, h .own, h .fits, h .agrees) (refl, refl)) (law .case)
+    (λ r why. let no : t ≡ false = refuted t (λ h. law .not-both r why (facts id p x h)) in rw no (refl, refl))
+    (λ h. rw (takes-back id (length p) p lent x h) (refl, refl)) (law .case)
 
 pub hear-own : (id : BusId) (p : List ℕ) (n : Node) → (let x = slotOf (streamOf id) n in
     slotOf (streamOf id) (hearing id p n .node) ≡ cond (takes id (length p) p x) (heardBy (n .counter) (codeOf id) p x) x)
-hear-own id p n = ap (slotOf s) (hears id p n .0) ∙ go (takes id (length p) p x) (takes-says id p x)
+hear-own id p n = ap (slotOf s) (hears id p n .0) ∙ go (takes id (length p) p x) (facts id p x)
   where
     s : Stream
     s = streamOf id
@@ -141,11 +129,11 @@ hear-own id p n = ap (slotOf s) (hears id p n .0) ∙ go (takes id (length p) p 
     x : Slot
     x = slotOf s n
 
-    go : (b : Bool) → (T b → HearFacts id (length p) p lent x)
+    go : (b : Bool) → (b ≡ true → HearFacts id (length p) p lent x)
         → slotOf s (cond b (onSlot s (heardBy (n .counter) (codeOf id) p) n) n) ≡ cond b (heardBy (n .counter) (codeOf id) p x) x
     go true h =
         slot-of-changed s (heardBy (n .counter) (codeOf id) p) (heard-keeps (n .counter) (codeOf id) p) n
-        (is-true (x .used) (and-l (x .used) (receives (x .settings)) (so (h tt .own))))
+        (is-true (x .used) (and-l (x .used) (receives (x .settings)) (so (h refl .own))))
     go false h = refl
 
 pub hear-other : (s : Stream) (id : BusId) (p : List ℕ) (n : Node) → (Same s (streamOf id) → ⊥)
@@ -178,16 +166,7 @@ asking s p n = outcome unbounded (request s p) n
 
 -- the slot accepts it
 abbrev pub accepts : List ℕ → Slot → Bool
-accepts p x = not (ltb maxPayload (length p)) && (isSender x && not (busy x))
-
-accepts-says : (p : List ℕ) (x : Slot) → T (accepts p x) → RequestFacts p x
-accepts-says p x t = go (ltb maxPayload (length p)) (isSender x) (busy x) (nltb→le maxPayload (length p)) refl refl t
-  where
-    go : (a b c : Bool) → (T (not a) → length p ≤ maxPayload) → isSender x ≡ b → busy x ≡ c → T (not a && (b && not c)) → RequestFacts p x
-    go false true false short own free t = record { short = short tt; own = own; free = free }
-    go true b c short own free t = absurd t
-    go false false c short own free t = absurd t
-    go false true true short own free t = absurd t
+accepts p x = node-request.accepts p x
 
 -- what a request leaves in the node, and whether it is taken
 asks : (s : Stream) (p : List ℕ) (n : Node) → (let t = accepts p (slotOf s n) in
@@ -196,9 +175,10 @@ asks s p n =
     let x = slotOf s n in
     let t = accepts p x in
     let law = request-cases p s n in
-    by-case (λ (o : Outcome). (o .node ≡ cond t (onSlot s (requested (n .counter) p) n) n) × (isDone (o .reply) ≡ t))
-    (λ r why. let no : t ≡ false = is-false t (λ h. law .not-both r why (accepts-says p x h)) in rw no (refl, law .not-done r why))
-    (λ h. rw (le-ltb maxPayload (length p) (h .short), h .own, h .free) (refl, refl)) (law .case)
+    by-case {n = n} {result = node-request.taken p s n}
+    (λ (o : Outcome). (o .node ≡ cond t (onSlot s (requested (n .counter) p) n) n) × (isDone (o .reply) ≡ t))
+    (λ r why. let no : t ≡ false = refuted t (λ h. law .not-both r why (accepts-says p x h)) in rw no (refl, law .not-done r why))
+    (λ h. rw (accepts-back p x h) (refl, refl)) (law .case)
 
 pub ask-own : (s : Stream) (p : List ℕ) (n : Node) → (let x = slotOf s n in
     slotOf s (asking s p n .node) ≡ cond (accepts p x) (requested (n .counter) p x) x)
@@ -207,11 +187,11 @@ ask-own s p n = ap (slotOf s) (asks s p n .0) ∙ go (accepts p x) (accepts-says
     x : Slot
     x = slotOf s n
 
-    go : (b : Bool) → (T b → RequestFacts p x)
+    go : (b : Bool) → (b ≡ true → RequestFacts p x)
         → slotOf s (cond b (onSlot s (requested (n .counter) p) n) n) ≡ cond b (requested (n .counter) p x) x
     go true h =
         slot-of-changed s (requested (n .counter) p) (requested-keeps (n .counter) p) n
-        (is-true (x .used) (and-l (x .used) (sends (x .settings)) (so (h tt .own))))
+        (is-true (x .used) (and-l (x .used) (sends (x .settings)) (so (h refl .own))))
     go false h = refl
 
 pub ask-other : (s z : Stream) (p : List ℕ) (n : Node) → (Same s z → ⊥) → slotOf s (asking z p n .node) ≡ slotOf s n
