@@ -16,15 +16,18 @@ pub struct Said {
     pub heard: bool,
     pub reply: Reply,
     pub len: usize,
-    pub bytes: [u8; 512],
+    pub bytes: [u8; Said::ROOM],
 }
 
 impl Said {
+    // Room for what any call writes.
+    pub const ROOM: usize = Node::TICK_ROOM;
+
     pub const NOTHING: Said = Said {
         heard: false,
         reply: Reply::Done,
         len: 0,
-        bytes: [0; 512],
+        bytes: [0; Said::ROOM],
     };
 }
 
@@ -74,7 +77,7 @@ impl Station {
                 said: Said::NOTHING,
             };
         }
-        let mut out = [0u8; 512];
+        let mut out = [0u8; Said::ROOM];
         let bytes = frame.all_bytes();
         let n = frame.payload_length();
         let node = self.node;
@@ -100,7 +103,7 @@ impl Station {
                 said: Said::NOTHING,
             };
         }
-        let mut out = [0u8; 512];
+        let mut out = [0u8; Said::ROOM];
         let node = self.node;
         let answer = node.tick(&mut out);
         let reply = answer.reply;
