@@ -11,7 +11,7 @@ ghost use mathlib.Core.Path.{_≡_};
 ghost use lib.Dec.{ltb};
 ghost use Rattle.node.specs.Calls.{setUp, request};
 ghost use Rattle.bench.specs.Events.{dead};
-ghost use Rattle.bench_in_code.specs.InCode.{benchOf, isLiveIn, asked, givingOf, sendingOf, tickOf, onModule};
+ghost use Rattle.bench_in_code.specs.InCode.{placeCount, benchOf, isLiveIn, asked, givingOf, sendingOf, tickOf, onModule};
 
 pub mod outbox;
 pub mod stations;
@@ -83,7 +83,7 @@ impl Bench {
 
     // Sets up a stream at a module.
     pub fn set_up(mut self, who: usize, stream: Stream, settings: Settings) -> Asked
-        ensures { λ r. ⌜ r ≡ asked (ltb who 8) (setUp stream settings) who self ⌝ }
+        ensures { λ r. ⌜ r ≡ asked (ltb who placeCount) (setUp stream settings) who self ⌝ }
     {
         if who >= Bench::PLACES {
             return Asked {

@@ -28,7 +28,11 @@ impl Frame {
     pub fn payload_length(self) -> usize
         ensures { λ r. ⌜ (r ≡ length (payloadOf self)) × (r ≤ maxPayload) ⌝ }
     {
-        if self.len <= Frame::ROOM { self.len } else { Frame::ROOM }
+        if self.len <= Frame::ROOM {
+            self.len
+        } else {
+            Frame::ROOM
+        }
     }
 
     // The payload and the zeros after it, eight bytes in all.

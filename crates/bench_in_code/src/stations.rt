@@ -1,10 +1,11 @@
 // A module: its node, and whether it is live. What a module said at an event that reached it.
 use crate::outbox::Frame;
+use node::Delivered;
 use node::Node;
 use wire::reply::Reply;
 ghost use mathlib.Core.Path.{_≡_};
 ghost use Rattle.bench.specs.Events.{withNode, dead};
-ghost use Rattle.bench_in_code.specs.InCode.{atStart, shown, kept, tickTurn, hearTurn};
+ghost use Rattle.bench_in_code.specs.InCode.{atStart, shown, kept, answeredTurn, tickTurn, hearTurn};
 
 pub struct Station {
     pub node: Node,
@@ -67,6 +68,26 @@ impl Station {
         }
     }
 
+    // Its node answered, and wrote into the output.
+    fn answered(self, answer: Delivered, out: [u8; Said::ROOM]) -> Turn
+        ensures { λ r. ⌜ r ≡ answeredTurn answer out self ⌝ }
+    {
+        let node = answer.node;
+        let reply = answer.reply;
+        Turn {
+            after: Station {
+                node: node,
+                live: self.live,
+            },
+            said: Said {
+                heard: true,
+                reply: reply,
+                len: answer.written,
+                bytes: out,
+            },
+        }
+    }
+
     // A sending of the frame reaches the module if it is named and does not own the frame.
     pub fn hear(self, frame: Frame, named: bool, own: bool) -> Turn
         ensures { λ r. ⌜ r ≡ hearTurn named own frame self ⌝ }
@@ -82,16 +103,7 @@ impl Station {
         let n = frame.payload_length();
         let node = self.node;
         let answer = node.hear(frame.id, n as u8, &bytes[0..n], &mut out);
-        let reply = answer.reply;
-        Turn {
-            after: self.with_node(answer.node),
-            said: Said {
-                heard: true,
-                reply: reply,
-                len: answer.written,
-                bytes: out,
-            },
-        }
+        self.answered(answer, out)
     }
 
     pub fn tick(self) -> Turn
@@ -106,15 +118,6 @@ impl Station {
         let mut out = [0u8; Said::ROOM];
         let node = self.node;
         let answer = node.tick(&mut out);
-        let reply = answer.reply;
-        Turn {
-            after: self.with_node(answer.node),
-            said: Said {
-                heard: true,
-                reply: reply,
-                len: answer.written,
-                bytes: out,
-            },
-        }
+        self.answered(answer, out)
     }
 }
