@@ -29,7 +29,7 @@ use Rattle.bench.specs.Lists.{nth}
 use Rattle.bench.specs.SetUp.{isDone}
 use Rattle.bench.specs.Bench as history
 use Rattle.bench.specs.Events.{lent, withNode, dead}
-use Rattle.bench_in_code.specs.InCode.{nobody, shown, kept, saying, silence, tickTurn, hearTurn, payloadOf, moduleIn, isLiveIn, callIn, onModule}
+use Rattle.bench_in_code.specs.InCode.{nobody, shown, kept, saying, silence, answeredTurn, tickTurn, hearTurn, payloadOf, moduleIn, isLiveIn, callIn, onModule}
 use Rattle.bench_in_code.specs.InCode.{asked, next, givenBy, givingOf, withFrame, notGiven, capacity}
 use Rattle.bench.proofs.laws.ListPlaces.{nth-inside, nth-past, at-inside, at-past}
 
@@ -79,9 +79,8 @@ dead-at-tick m e = rw e
 
 pub live-at-tick : (m : Station) → m .live ≡ true → (a : Delivered) (out : List ℕ)
     → a ≡ delivered (outcome rolled (tick lent) (m .node)) → out ≡ over (outcome rolled (tick lent) (m .node) .bytes) lent
-    → (m′ : Station) → m′ ≡ kept (withNode (a .node) (shown m))
-    → record { after = m′; said = record { heard = true; reply = a .reply; len = a .written; bytes = out } } ≡ tickTurn m
-live-at-tick m e a out a-is out-is m′ m′-is = rw (m′-is, a-is, out-is, e)
+    → answeredTurn a out m ≡ tickTurn m
+live-at-tick m e a out a-is out-is = rw (a-is, out-is, e)
 
 module _ (named own : Bool) (f : Frame) (m : Station) where
   pub not-reached : (m .live && named && not own) ≡ false → record { after = m; said = silence } ≡ hearTurn named own f m
@@ -89,9 +88,8 @@ module _ (named own : Bool) (f : Frame) (m : Station) where
 
   pub reached : (m .live && named && not own) ≡ true → (a : Delivered) (out : List ℕ) (n : ℕ) (p : List ℕ) → n ≡ length p → p ≡ payloadOf f
       → a ≡ delivered (outcome rolled (hear (f .id) n p lent) (m .node)) → out ≡ over (outcome rolled (hear (f .id) n p lent) (m .node) .bytes) lent
-      → (m′ : Station) → m′ ≡ kept (withNode (a .node) (shown m))
-      → record { after = m′; said = record { heard = true; reply = a .reply; len = a .written; bytes = out } } ≡ hearTurn named own f m
-  reached e a out n p n-is p-is a-is out-is m′ m′-is = rw (m′-is, a-is, out-is, n-is, p-is, e)
+      → answeredTurn a out m ≡ hearTurn named own f m
+  reached e a out n p n-is p-is a-is out-is = rw (a-is, out-is, n-is, p-is, e)
 
 -- ── the payload of a frame ──
 pub as-many-bytes : (f : Frame) (n : ℕ) → n ≡ length (payloadOf f) → take n (f .bytes) ≡ payloadOf f

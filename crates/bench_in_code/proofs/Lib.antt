@@ -2,3 +2,6 @@ pub mod LoopsOverStations
 pub mod CallsInCode
 pub mod Unique
 pub mod InStep
+pub mod SetUpInStep
+pub mod OutboxKeepsFrames
+pub mod EveryHistoryRuns

@@ -11,7 +11,7 @@ use Rattle.wire.specs.declared.reply.Reply.{Reply}
 use Rattle.wire.specs.declared.reply.Reply.the-variants.{Done}
 use Rattle.wire.specs.Frames.{maxPayload}
 use Rattle.wire.specs.Delivered.{over}
-use Rattle.node.specs.declared.Node.{Node}
+use Rattle.node.specs.declared.Delivered.{Delivered}
 use Rattle.node.specs.Nodes.{Outcome, fresh, noId}
 use Rattle.node.specs.Clock.{rolled}
 use Rattle.node.specs.Calls.{Call, tick, nextFrame}
@@ -53,6 +53,14 @@ saying o = record { heard = true; reply = o .reply; len = length (o .bytes); byt
 abbrev pub silence : Said
 silence = record { heard = false; reply = Done; len = 0; bytes = lent }
 
+-- a module whose node answered, with the output that it wrote into
+abbrev pub answeredTurn : Delivered → (output : List ℕ) → Station → Turn
+answeredTurn a output m =
+    record {
+      after = kept (withNode (a .node) (shown m));
+      said = record { heard = true; reply = a .reply; len = a .written; bytes = output };
+    }
+
 abbrev pub tickTurn : Station → Turn
 tickTurn m =
     record {
@@ -92,9 +100,15 @@ abbrev pub withFrame : kept-frame.Frame → Frames → Frames
 withFrame f fs = cond (ltb (fs .count) capacity) (record { all = set (fs .all) (fs .count) f; count = suc (fs .count) }) fs
 
 -- ── the bench ──
+abbrev pub placeCount : ℕ
+placeCount = 8
+
+abbrev pub places : List ℕ
+places = 0 ∷ 1 ∷ 2 ∷ 3 ∷ 4 ∷ 5 ∷ 6 ∷ 7 ∷ []
+
 -- so many live modules, at most eight
 abbrev pub benchOf : ℕ → coded.Bench
-benchOf n = record { modules = map (λ (i : ℕ). atStart (ltb i n)) (0 ∷ 1 ∷ 2 ∷ 3 ∷ 4 ∷ 5 ∷ 6 ∷ 7 ∷ []) }
+benchOf n = record { modules = map (λ (i : ℕ). atStart (ltb i n)) places }
 
 abbrev pub moduleIn : ℕ → coded.Bench → Station
 moduleIn i b = nth nobody i (b .modules)
@@ -138,7 +152,7 @@ unfoldable pub sendingOf : kept-frame.Frame → (to : List Bool) → coded.Bench
 sendingOf f to b =
     let ts = turnsOf (λ i m. hearTurn (getD to i false) (eqb i (f .owner)) f m) b in
     cond (isLiveIn (f .owner) b) (record { bench = afterTurns ts; sent = true; said = saidIn ts })
-    (record { bench = b; sent = false; said = replicate 8 silence })
+    (record { bench = b; sent = false; said = replicate placeCount silence })
 
 -- giving out: a module's next frame, with its payload in an output of zeros
 abbrev pub next : Call

@@ -1,1 +1,3 @@
 pub mod InCode
+pub mod InStep
+pub mod Runs

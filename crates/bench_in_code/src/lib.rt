@@ -11,13 +11,13 @@ ghost use mathlib.Core.Path.{_≡_};
 ghost use lib.Dec.{ltb};
 ghost use Rattle.node.specs.Calls.{setUp, request};
 ghost use Rattle.bench.specs.Events.{dead};
-ghost use Rattle.bench_in_code.specs.InCode.{benchOf, isLiveIn, asked, givingOf, sendingOf, tickOf, onModule};
+ghost use Rattle.bench_in_code.specs.InCode.{placeCount, benchOf, isLiveIn, asked, givingOf, sendingOf, tickOf, onModule};
 
 pub mod outbox;
 pub mod stations;
 
 pub struct Bench {
-    pub modules: [Station; 8],
+    pub modules: [Station; Bench::PLACES],
 }
 
 // What a set up or a request answers; where `there` is false nobody answered, and nothing changed.
@@ -30,14 +30,14 @@ pub struct Asked {
 // What an event that reaches several modules leaves, and what each of them said.
 pub struct Told {
     pub bench: Bench,
-    pub said: [Said; 8],
+    pub said: [Said; Bench::PLACES],
 }
 
 // What a sending answers; where `sent` is false the frame's owner was not live, and nothing changed.
 pub struct Sent {
     pub bench: Bench,
     pub sent: bool,
-    pub said: [Said; 8],
+    pub said: [Said; Bench::PLACES],
 }
 
 pub enum Giving {
@@ -60,6 +60,9 @@ pub struct Gave {
 }
 
 impl Bench {
+    // So many modules have a place.
+    pub const PLACES: usize = 8;
+
     // So many fresh modules, at most eight.
     pub fn of(n: usize) -> Bench
         ensures { λ r. ⌜ r ≡ benchOf n ⌝ }
@@ -80,9 +83,9 @@ impl Bench {
 
     // Sets up a stream at a module.
     pub fn set_up(mut self, who: usize, stream: Stream, settings: Settings) -> Asked
-        ensures { λ r. ⌜ r ≡ asked (ltb who 8) (setUp stream settings) who self ⌝ }
+        ensures { λ r. ⌜ r ≡ asked (ltb who placeCount) (setUp stream settings) who self ⌝ }
     {
-        if who >= 8 {
+        if who >= Bench::PLACES {
             return Asked {
                 bench: self,
                 there: false,
@@ -105,7 +108,7 @@ impl Bench {
     pub fn request(mut self, who: usize, stream: Stream, payload: &[u8]) -> Asked
         ensures { λ r. ⌜ r ≡ asked (isLiveIn who self) (request stream (now (payload .entry))) who self ⌝ }
     {
-        if who >= 8 {
+        if who >= Bench::PLACES {
             return Asked {
                 bench: self,
                 there: false,
@@ -135,7 +138,7 @@ impl Bench {
     pub fn give(mut self, who: usize, frames: Frames) -> Gave
         ensures { λ r. ⌜ r ≡ givingOf who frames self ⌝ }
     {
-        if who >= 8 {
+        if who >= Bench::PLACES {
             return Gave {
                 bench: self,
                 frames: frames,
@@ -152,7 +155,7 @@ impl Bench {
                 frame: Frame::NONE,
             };
         }
-        let mut bytes = [0u8; 8];
+        let mut bytes = [0u8; Frame::ROOM];
         let node = m.node;
         let answer = node.next_frame(&mut bytes);
         let reply = answer.reply;
@@ -192,7 +195,7 @@ impl Bench {
     pub fn is_live(self, who: usize) -> bool
         ensures { λ r. ⌜ r ≡ isLiveIn who self ⌝ }
     {
-        if who >= 8 {
+        if who >= Bench::PLACES {
             return false;
         }
         let m = self.modules[who];
@@ -200,10 +203,10 @@ impl Bench {
     }
 
     // A frame is sent, and heard by the live modules of those named, other than its owner.
-    pub fn send(mut self, frame: Frame, to: [bool; 8]) -> Sent
+    pub fn send(mut self, frame: Frame, to: [bool; Bench::PLACES]) -> Sent
         ensures { λ r. ⌜ r ≡ sendingOf frame to self ⌝ }
     {
-        let mut said = [Said::NOTHING; 8];
+        let mut said = [Said::NOTHING; Bench::PLACES];
         if !self.is_live(frame.owner) {
             return Sent {
                 bench: self,
@@ -211,7 +214,7 @@ impl Bench {
                 said: said,
             };
         }
-        let mut i: usize = 8;
+        let mut i: usize = Bench::PLACES;
         while i > 0 {
             i -= 1;
             let m = self.modules[i];
@@ -232,8 +235,8 @@ impl Bench {
     pub fn tick(mut self) -> Told
         ensures { λ r. ⌜ r ≡ tickOf self ⌝ }
     {
-        let mut said = [Said::NOTHING; 8];
-        let mut i: usize = 8;
+        let mut said = [Said::NOTHING; Bench::PLACES];
+        let mut i: usize = Bench::PLACES;
         while i > 0 {
             i -= 1;
             let m = self.modules[i];
@@ -253,7 +256,7 @@ impl Bench {
     pub fn death(mut self, who: usize) -> Bench
         ensures { λ r. ⌜ r ≡ onModule dead who self ⌝ }
     {
-        if who >= 8 {
+        if who >= Bench::PLACES {
             return self;
         }
         let m = self.modules[who];

@@ -10,26 +10,33 @@ pub struct Frame {
     pub owner: usize,
     pub id: BusId,
     pub len: usize,
-    pub bytes: [u8; 8],
+    pub bytes: [u8; Frame::ROOM],
 }
 
 impl Frame {
+    // A payload has at most so many bytes.
+    pub const ROOM: usize = 8;
+
     pub const NONE: Frame = Frame {
         owner: 0,
         id: BusId(0),
         len: 0,
-        bytes: [0; 8],
+        bytes: [0; Frame::ROOM],
     };
 
     // The length of the payload, which has at most eight bytes.
     pub fn payload_length(self) -> usize
         ensures { λ r. ⌜ (r ≡ length (payloadOf self)) × (r ≤ maxPayload) ⌝ }
     {
-        if self.len <= 8 { self.len } else { 8 }
+        if self.len <= Frame::ROOM {
+            self.len
+        } else {
+            Frame::ROOM
+        }
     }
 
     // The payload and the zeros after it, eight bytes in all.
-    pub fn all_bytes(self) -> [u8; 8]
+    pub fn all_bytes(self) -> [u8; Frame::ROOM]
         ensures { λ r. ⌜ (r ≡ self .bytes) × (length r ≡ maxPayload) ⌝ }
     {
         self.bytes
@@ -37,7 +44,7 @@ impl Frame {
 }
 
 pub struct Frames {
-    pub all: [Frame; 1024],
+    pub all: [Frame; Frames::MOST],
     pub count: usize,
 }
 
@@ -49,7 +56,7 @@ impl Frames {
         ensures { λ r. ⌜ r ≡ noFrames ⌝ }
     {
         Frames {
-            all: [Frame::NONE; 1024],
+            all: [Frame::NONE; Frames::MOST],
             count: 0,
         }
     }

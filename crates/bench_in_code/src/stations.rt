@@ -1,10 +1,11 @@
 // A module: its node, and whether it is live. What a module said at an event that reached it.
 use crate::outbox::Frame;
+use node::Delivered;
 use node::Node;
 use wire::reply::Reply;
 ghost use mathlib.Core.Path.{_≡_};
 ghost use Rattle.bench.specs.Events.{withNode, dead};
-ghost use Rattle.bench_in_code.specs.InCode.{atStart, shown, kept, tickTurn, hearTurn};
+ghost use Rattle.bench_in_code.specs.InCode.{atStart, shown, kept, answeredTurn, tickTurn, hearTurn};
 
 pub struct Station {
     pub node: Node,
@@ -16,15 +17,18 @@ pub struct Said {
     pub heard: bool,
     pub reply: Reply,
     pub len: usize,
-    pub bytes: [u8; 512],
+    pub bytes: [u8; Said::ROOM],
 }
 
 impl Said {
+    // Room for what any call writes.
+    pub const ROOM: usize = Node::TICK_ROOM;
+
     pub const NOTHING: Said = Said {
         heard: false,
         reply: Reply::Done,
         len: 0,
-        bytes: [0; 512],
+        bytes: [0; Said::ROOM],
     };
 }
 
@@ -64,6 +68,26 @@ impl Station {
         }
     }
 
+    // Its node answered, and wrote into the output.
+    fn answered(self, answer: Delivered, out: [u8; Said::ROOM]) -> Turn
+        ensures { λ r. ⌜ r ≡ answeredTurn answer out self ⌝ }
+    {
+        let node = answer.node;
+        let reply = answer.reply;
+        Turn {
+            after: Station {
+                node: node,
+                live: self.live,
+            },
+            said: Said {
+                heard: true,
+                reply: reply,
+                len: answer.written,
+                bytes: out,
+            },
+        }
+    }
+
     // A sending of the frame reaches the module if it is named and does not own the frame.
     pub fn hear(self, frame: Frame, named: bool, own: bool) -> Turn
         ensures { λ r. ⌜ r ≡ hearTurn named own frame self ⌝ }
@@ -74,21 +98,12 @@ impl Station {
                 said: Said::NOTHING,
             };
         }
-        let mut out = [0u8; 512];
+        let mut out = [0u8; Said::ROOM];
         let bytes = frame.all_bytes();
         let n = frame.payload_length();
         let node = self.node;
         let answer = node.hear(frame.id, n as u8, &bytes[0..n], &mut out);
-        let reply = answer.reply;
-        Turn {
-            after: self.with_node(answer.node),
-            said: Said {
-                heard: true,
-                reply: reply,
-                len: answer.written,
-                bytes: out,
-            },
-        }
+        self.answered(answer, out)
     }
 
     pub fn tick(self) -> Turn
@@ -100,18 +115,9 @@ impl Station {
                 said: Said::NOTHING,
             };
         }
-        let mut out = [0u8; 512];
+        let mut out = [0u8; Said::ROOM];
         let node = self.node;
         let answer = node.tick(&mut out);
-        let reply = answer.reply;
-        Turn {
-            after: self.with_node(answer.node),
-            said: Said {
-                heard: true,
-                reply: reply,
-                len: answer.written,
-                bytes: out,
-            },
-        }
+        self.answered(answer, out)
     }
 }

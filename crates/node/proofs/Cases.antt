@@ -1,10 +1,14 @@
 -- The outcome of a call, by cases: the first of its tests that holds refused it, or none did and it was accepted.
-use mathlib.Core.Path.{_≡_, refl, _∙_}
-use mathlib.Core.Bool.{Bool, true, false, cond}
+use mathlib.Core.Path.{_≡_, refl}
+use mathlib.Core.Bool.{Bool, true, false, cond, not, _&&_, and-eq-true-iff}
 use mathlib.Core.List.{[], _∷_}
+use lib.Dec.{eqb}
+use borrow.Author.Tests.{not-true}
 use Rattle.wire.specs.declared.reply.Reply.{Reply}
+use Rattle.wire.specs.Replies.{numberOf}
 use Rattle.node.specs.declared.Node.{Node}
 use Rattle.node.specs.Nodes.{Outcome, refused, Refusals, unlessRefused}
+use Rattle.node.proofs.Choices.{contrary}
 
 -- the first test that holds has this reply
 pub data Refuses : Refusals → Reply → Type 0 where
@@ -26,6 +30,21 @@ pub by-case : {n : Node} {tests : Refusals} {Facts : Type 0} {result o : Outcome
     → ((r : Reply) → Refuses tests r → P (refused n r)) → (Facts → P result) → Case n tests Facts result o → P o
 by-case P if-refused if-accepted (refusal {r} why) = if-refused r why
 by-case P if-refused if-accepted (accepted facts) = if-accepted facts
+
+-- not both
+pub refused-not-passed : {tests : Refusals} {r : Reply} → Refuses tests r → Passes tests → ⊥
+refused-not-passed (here e) p = contrary e (p .0)
+refused-not-passed (later e rest) p = refused-not-passed rest (p .1)
+
+-- every reply has another number than 0
+abbrev pub refusing : Refusals → Bool
+refusing [] = true
+refusing ((r, t) ∷ rest) = not (eqb (numberOf r) 0) && refusing rest
+
+refused-not-done : {tests : Refusals} {r : Reply} → refusing tests ≡ true → Refuses tests r → eqb (numberOf r) 0 ≡ false
+refused-not-done all (here {r} {t} {rest} e) = not-true _ (and-eq-true-iff (not (eqb (numberOf r) 0)) (refusing rest) .0 all .0)
+refused-not-done all (later {q} {r} {t} {rest} e why) =
+    refused-not-done (and-eq-true-iff (not (eqb (numberOf q) 0)) (refusing rest) .0 all .1) why
 
 -- what the tests decide, either way
 pub refuses : (n : Node) (result : Outcome) {tests : Refusals} {r : Reply} → Refuses tests r → unlessRefused n tests result ≡ refused n r
@@ -51,12 +70,16 @@ pub record Cases (n : Node) (tests : Refusals) (Facts : Type 0) (result o : Outc
   pub case : Case n tests Facts result o
   pub refused-if : (r : Reply) → Refuses tests r → o ≡ refused n r
   pub accepted-if : Facts → o ≡ result
+  pub not-both : (r : Reply) → Refuses tests r → Facts → ⊥
+  pub not-done : (r : Reply) → Refuses tests r → eqb (numberOf r) 0 ≡ false
 
-pub cases : (n : Node) (tests : Refusals) (result : Outcome) {Facts : Type 0} → (Passes tests → Facts) → (Facts → Passes tests)
+pub cases : (n : Node) (tests : Refusals) (result : Outcome) {Facts : Type 0} → refusing tests ≡ true → (Passes tests → Facts) → (Facts → Passes tests)
     → Cases n tests Facts result (unlessRefused n tests result)
-cases n tests result facts back =
+cases n tests result all facts back =
     record {
       case = by-tests n result tests facts;
       refused-if = λ r why. refuses n result why;
       accepted-if = λ h. passes n result tests (back h);
+      not-both = λ r why h. refused-not-passed why (back h);
+      not-done = λ r why. refused-not-done all why;
     }

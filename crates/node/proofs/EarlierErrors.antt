@@ -3,21 +3,16 @@ use Prim.Native.Nat.{ℕ, _+_, _%_, _≤_, _<_}
 use native.Mathlib.Omega.{arith}
 use mathlib.Core.Path.{_≡_, refl, ap, _∙_}
 use mathlib.Core.Logic.{⊎-elim}
-use mathlib.Core.Bool.{true, false, not, and-eq-true-iff}
+use mathlib.Core.Bool.{true, false, and-eq-true-iff}
 use mathlib.Core.List.{List}
-use lib.ListN.{length}
-use lib.Dec.{ltb}
-use borrow.Author.Tests.{not-false}
 use Rattle.wire.specs.declared.ids.Stream.{Stream}
 use Rattle.wire.specs.declared.ids.BusId.{BusId}
 use Rattle.wire.specs.Identifiers.{streamOf, codeOf}
-use Rattle.wire.specs.Classes.{carries}
-use Rattle.wire.specs.Frames.{badFrame}
 use Rattle.wire.specs.Settings.{receives, isTwoMessage}
 use Rattle.node.specs.declared.slots.Slot.{Slot}
 use Rattle.node.specs.declared.Node.{Node}
 use Rattle.node.specs.Nodes.{slotOf}
-use Rattle.node.specs.Slots.{nothing, holding, restamped, abortPending, isReceiver, withParts, withMessage}
+use Rattle.node.specs.Slots.{nothing, holding, restamped, abortPending, withParts, withMessage}
 use Rattle.node.specs.Clock.{Clock, period, rolled}
 use Rattle.node.specs.Hear.{clashes, heardBy, hear}
 use Rattle.node.specs.Tick.{late, due, holdOver, lapsed, ageOf, tickSlot, dueSlots, ticked}

@@ -2,6 +2,7 @@
 pub mod Choices
 pub mod Cases
 pub mod kept
+pub mod demand1
 pub mod rollover
 pub mod listing
 pub mod Moments

@@ -2,3 +2,4 @@
 pub mod Cases
 pub mod Ways
 pub mod Lowest
+pub mod GivesLowest

@@ -46,7 +46,7 @@ heardBy now code payload x =
 unfoldable pub deliveredAtOnce : BusId → (payload : List ℕ) → List ℕ
 deliveredAtOnce id payload = cond (eqb (codeOf id) 3) (recordOf (streamOf id) payload) []
 
--- a frame, at the slot of its stream
+-- what refuses a frame, at the slot of its stream
 abbrev pub hearRefusals : BusId → (dlc : ℕ) → (payload output : List ℕ) → Slot → Refusals
 hearRefusals id dlc payload output x =
     (ShortOutput, ltb (length output) hearRoom)

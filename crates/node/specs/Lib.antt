@@ -9,6 +9,7 @@ pub mod NextFrame
 pub mod Calls
 pub mod Reachable
 pub mod Moments
+pub mod Refused
 pub mod Listing
 pub mod SameAsListing
 pub mod Selection

@@ -27,7 +27,7 @@ requested now payload x =
     (cond (isPlain (x .settings)) (keeping payload) (holding now payload))
     (record { payload = true; confirmation = isTwoMessage (x .settings); abort = false })
 
--- at the slot of the stream
+-- what refuses a request, at the slot of its stream
 abbrev pub requestRefusals : (payload : List ℕ) → Slot → Refusals
 requestRefusals payload x =
     (BadLength, ltb maxPayload (length payload))

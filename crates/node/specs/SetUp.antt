@@ -14,6 +14,7 @@ use Rattle.node.specs.Nodes.{hasSlot, withSlots, Outcome, Refusals, unle
 abbrev pub slotFor : Stream → Settings → Slot
 slotFor s settings = record { stream = s; settings = settings; message = nothing; pending = nonePending; used = true }
 
+-- what refuses a stream and its settings
 abbrev pub setUpRefusals : Stream → Settings → Node → Refusals
 setUpRefusals s settings n =
     (BadSettings, not (legal s settings))

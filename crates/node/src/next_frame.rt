@@ -15,7 +15,8 @@ ghost use Rattle.wire.specs.Frames.{maxPayload};
 ghost use Rattle.wire.specs.Delivered.{over};
 ghost use Rattle.node.specs.Slots.{payloadOf};
 ghost use Rattle.node.specs.Nodes.{given};
-ghost use Rattle.node.specs.NextFrame.{pendingCodes, pendingIn, lowest, givenOut, payloadFor, nextFrame};
+ghost use Rattle.node.specs.Selection.{lowestOrAbove};
+ghost use Rattle.node.specs.NextFrame.{pendingCodes, pendingIn, givenOut, payloadFor, nextFrame};
 ghost use Rattle.node.specs.Clock.{rolled, unbounded};
 ghost use Rattle.node.specs.Calls.{Call, after, rollOutcome};
 
@@ -25,7 +26,7 @@ const NONE: u32 = BusId::MAX + 1;
 impl Slot {
     // The lowest code of the slot's pending frames.
     pub fn lowest_code(self) -> u32
-        ensures { λ r. ⌜ r ≡ lowest (pendingCodes self) ⌝ }
+        ensures { λ r. ⌜ r ≡ lowestOrAbove (pendingCodes self) ⌝ }
     {
         let p = self.pending;
         if !p.any() {
@@ -46,7 +47,7 @@ impl Slot {
 
     // The lowest bus identifier of the slot's pending frames.
     pub fn lowest_pending(self) -> BusId
-        ensures { λ r. ⌜ r ≡ record { 0 = lowest (pendingIn self) } ⌝ }
+        ensures { λ r. ⌜ r ≡ record { 0 = lowestOrAbove (pendingIn self) } ⌝ }
     {
         let code = self.lowest_code();
         if code > 3 {

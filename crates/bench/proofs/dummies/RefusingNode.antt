@@ -1,29 +1,30 @@
 -- A node that hears no frame: no receive slot of it ever holds a message, so none is ever due. Only hearing makes a receiver hold one.
 use Prim.Native.Nat.{ℕ}
 use mathlib.Core.Path.{_≡_, refl}
-use mathlib.Core.Bool.{Bool, true, false, cond, not, and-eq-true-iff}
+use mathlib.Core.Bool.{Bool, true, false, cond, and-eq-true-iff}
 use mathlib.Core.List.{List, [], _∷_}
-use lib.ListN.{length}
-use lib.Dec.{ltb}
-use borrow.Author.Tests.{not-false}
 use Rattle.wire.specs.declared.ids.Stream.{Stream}
 use Rattle.wire.specs.declared.ids.BusId.{BusId}
 use Rattle.wire.specs.declared.settings.Settings.{Settings}
-use Rattle.wire.specs.Settings.{legal}
-use Rattle.wire.specs.Identifiers.{maxBusId, streamOf, codeOf}
-use Rattle.wire.specs.Frames.{maxPayload}
+use Rattle.wire.specs.Identifiers.{streamOf, codeOf}
 use Rattle.node.specs.declared.slots.Slot.{Slot}
 use Rattle.node.specs.declared.Node.{Node}
-use Rattle.node.specs.Slots.{nothing, released, abortPending, empty, isFree, isOf, isReceiver, isSender, withParts, withMessage, some}
-use Rattle.node.specs.Nodes.{fresh, slotCount, slotOf, hasSlot}
+use Rattle.node.specs.Slots.{nothing, released, abortPending, empty, isFree, isOf, isReceiver, isSender, withParts, withMessage}
+use Rattle.node.specs.Nodes.{fresh, slotCount, slotOf, Outcome}
 use Rattle.node.specs.Reachable.{All}
 use Rattle.node.specs.Clock.{Clock, unbounded}
 use Rattle.node.specs.SetUp.{setUp, slotFor}
-use Rattle.node.specs.Request.{request, requested, busy}
-use Rattle.node.specs.NextFrame.{nextFrame, give, givenOut, lowest, pendingIds, nextRoom}
-use Rattle.node.specs.Tick.{late, due, holdOver, lapsed, tick, tickRoom, ageOf, tickSlot, dueSlots}
+use Rattle.node.specs.Request.{request, requested}
+use Rattle.node.specs.NextFrame.{nextFrame, give, givenOut, pendingIds}
+use Rattle.node.specs.Selection.{lowestOrAbove}
+use Rattle.node.specs.Tick.{late, due, holdOver, lapsed, tick, ageOf, tickSlot, dueSlots}
 use Rattle.node.specs.Calls.{afterFrom}
-use Rattle.node.proofs.Choices.{unless, contrary, refuted}
+use Rattle.node.proofs.Choices.{contrary, refuted}
+use Rattle.node.proofs.Cases.{by-case}
+use Rattle.node.proofs.set_up.Cases.{set-up-cases}
+use Rattle.node.proofs.tick.Cases.{tick-cases}
+use Rattle.node.proofs.request.Cases.{request-cases}
+use Rattle.node.proofs.next_frame.Cases.{next-cases}
 use Rattle.node.proofs.slots.Table.{all-map, all-replicate, all-on-first}
 use Rattle.node.proofs.tick.Tests.{due-tells}
 use Rattle.node.proofs.kept.EachSlot.{not-sender}
@@ -80,37 +81,31 @@ none-due clock now (x ∷ xs) us = rw (not-due (ageOf clock now x) x (us .0)) (n
 -- every call but hear keeps it so
 module _ (n : Node) (k : NoneHeld n) where
   pub none-set-up : (s : Stream) (settings : Settings) → NoneHeld (setUp s settings n .node)
-  unfolding setUp
   none-set-up s settings =
-      unless NoneHeld n (not (legal s settings)) _ _ k λ ok.
-      unless NoneHeld n (hasSlot s n) _ _ k λ new.
-      unless NoneHeld n (not (some isFree (n .slots))) _ _ k λ room.
-      all-on-first Unheld isFree (λ x. slotFor s settings) (n .slots) k (λ free u r. refl)
+      by-case (λ (o : Outcome). NoneHeld (o .node)) (λ r why. k)
+      (λ h. all-on-first Unheld isFree (λ x. slotFor s settings) (n .slots) k (λ free u r. refl)) (set-up-cases s settings n .case)
 
   pub none-request : (s : Stream) (payload : List ℕ) → NoneHeld (request s payload n .node)
-  unfolding request
   none-request s payload =
-      unless NoneHeld n (ltb maxPayload (length payload)) _ _ k λ small.
-      unless NoneHeld n (not (isSender (slotOf s n))) _ _ k λ own.
-      unless NoneHeld n (busy (slotOf s n)) _ _ k λ ready.
-      all-on-first Unheld (isOf s) (requested (n .counter) payload) (n .slots) k
-      (λ here u. unheld-requested (n .counter) payload (slotOf s n) (not-false _ own))
+      by-case (λ (o : Outcome). NoneHeld (o .node)) (λ r why. k)
+      (λ h. all-on-first Unheld (isOf s) (requested (n .counter) payload) (n .slots) k
+      (λ here u. unheld-requested (n .counter) payload (slotOf s n) (h .own)))
+      (request-cases payload s n .case)
 
   pub none-next-frame : (output : List ℕ) → NoneHeld (nextFrame output n .node)
-  unfolding nextFrame give
+  unfolding give
   none-next-frame output =
-      unless NoneHeld n (ltb (length output) nextRoom) _ _ k λ room.
-      unless NoneHeld n (ltb maxBusId (lowest (pendingIds (n .slots)))) _ _ k λ some-pending.
-      let id : BusId = record { 0 = lowest (pendingIds (n .slots)) } in
-      all-on-first Unheld (isOf (streamOf id)) (givenOut (codeOf id)) (n .slots) k
-      (λ here u. unheld-given-out (codeOf id) (slotOf (streamOf id) n) u)
+      let id : BusId = record { 0 = lowestOrAbove (pendingIds (n .slots)) } in
+      by-case (λ (o : Outcome). NoneHeld (o .node)) (λ r why. k)
+      (λ h. all-on-first Unheld (isOf (streamOf id)) (givenOut (codeOf id)) (n .slots) k
+      (λ here u. unheld-given-out (codeOf id) (slotOf (streamOf id) n) u))
+      (next-cases output n .case)
 
   pub none-tick : (clock : Clock) (output : List ℕ) → NoneHeld (tick clock output n .node)
-  unfolding tick
   none-tick clock output =
       let now = clock .next (n .counter) in
-      unless NoneHeld n (ltb (length output) tickRoom) _ _ k λ room.
-      all-map Unheld Unheld (tickSlot clock now) (λ x. unheld-lapsed (ageOf clock now x) x) (n .slots) k
+      by-case (λ (o : Outcome). NoneHeld (o .node)) (λ r why. k)
+      (λ h. all-map Unheld Unheld (tickSlot clock now) (λ x. unheld-lapsed (ageOf clock now x) x) (n .slots) k) (tick-cases output clock n .case)
 
 pub none-set-ups : (part : Part) (n : Node) → NoneHeld n → NoneHeld (afterFrom unbounded n (setUps part))
 none-set-ups [] n k = k

@@ -2,31 +2,26 @@
 use Prim.Native.Nat.{ℕ, _+_}
 use native.Mathlib.Omega.{arith}
 use mathlib.Core.Path.{_≡_, refl, ap, sym, _∙_}
-use mathlib.Core.Bool.{Bool, true, false, cond, not, _&&_}
+use mathlib.Core.Bool.{Bool, true, false, cond}
 use mathlib.Core.List.{List, [], _∷_, _++_, map, append-nil}
 use lib.ListN.{length}
 use lib.Dec.{eqb}
 use borrow.Author.Tests.{ne-eqb}
 use Rattle.wire.specs.declared.ids.BusId.{BusId}
-use Rattle.wire.specs.declared.reply.Reply.the-variants.{BadFrame, NotMine, Misfit, Clash}
-use Rattle.wire.specs.Classes.{carries}
-use Rattle.wire.specs.Frames.{badFrame}
 use Rattle.wire.specs.Identifiers.{streamOf, codeOf}
 use Rattle.wire.specs.Delivered.{recordOf}
 use Rattle.wire.proofs.Records.{record-length}
 use Rattle.node.specs.declared.slots.Slot.{Slot}
 use Rattle.node.specs.declared.Node.{Node}
-use Rattle.node.specs.Slots.{isReceiver}
-use Rattle.node.specs.Nodes.{Outcome, refused, slotOf}
+use Rattle.node.specs.Nodes.{Outcome, slotOf}
 use Rattle.node.specs.Clock.{Clock}
-use Rattle.node.specs.Hear as Hear
-use Rattle.node.specs.Hear.{clashes, deliveredAtOnce}
-use Rattle.node.specs.Tick as Tick
+use Rattle.node.specs.Hear.{deliveredAtOnce}
 use Rattle.node.specs.Tick.{recordsFrom, dueSlots}
 use Rattle.bench.specs.Bench.{Delivery, Frame, Module}
 use Rattle.bench.specs.Events.{lent, deliveries, heard, atOnce}
 use Rattle.node.specs.Calls.{tick, outcome}
-use Rattle.bench.proofs.laws.SlotAfterCall.{takes, hearing, deliveryOf}
+use Rattle.node.proofs.tick.Cases.{tick-cases}
+use Rattle.bench.proofs.laws.SlotAfterCall.{takes, hearing, hears, deliveryOf}
 
 -- one after the other, the first first
 abbrev pub recordsOf : List Delivery → List ℕ
@@ -40,26 +35,15 @@ records-of-slots t [] = refl
 records-of-slots t (x ∷ xs) = rw (records-of-slots t xs)
 
 pub tick-writes : (clock : Clock) (n : Node) → outcome clock (tick lent) n .bytes ≡ recordsOf (deliveries clock n)
-unfolding Tick.tick
-tick-writes clock n = records-of-slots (clock .next (n .counter)) (dueSlots clock (clock .next (n .counter)) (n .slots))
+tick-writes clock n =
+    ap (λ (o : Outcome). o .bytes) (tick-cases lent clock n .accepted-if (record { room = omega arith }))
+    ∙ records-of-slots (clock .next (n .counter)) (dueSlots clock (clock .next (n .counter)) (n .slots))
 
 -- ── hearing ──
 -- a frame that the slot takes, if it is plain, and else nothing
 pub hear-writes : (id : BusId) (p : List ℕ) (n : Node)
     → hearing id p n .bytes ≡ cond (takes id (length p) p (slotOf (streamOf id) n)) (deliveredAtOnce id p) []
-unfolding Hear.hear
-hear-writes id p n =
-    let x = slotOf (streamOf id) n in
-    go (badFrame id (length p) (length p)) (isReceiver x) (carries (x .settings .class) (codeOf id)) (clashes (codeOf id) p x) _ refl
-  where
-    go : (bad own fits clash : Bool) (o : Outcome) → o .bytes ≡ deliveredAtOnce id p
-        → cond bad (refused n BadFrame) (cond (not own) (refused n NotMine) (cond (not fits) (refused n Misfit) (cond clash (refused n Clash) o))) .bytes
-        ≡ cond (not bad && (own && (fits && not clash))) (deliveredAtOnce id p) []
-    go true own fits clash o e = refl
-    go false false fits clash o e = refl
-    go false true false clash o e = refl
-    go false true true true o e = refl
-    go false true true false o e = e
+hear-writes id p n = hears id p n .1
 
 -- what is written is the record of what is logged at once
 pub heard-writes : (f : Frame) (m : Module) → heard f m .bytes ≡ recordsOf (atOnce f m)

@@ -4,31 +4,35 @@ use Prim.Native.Nat.{ℕ, _+_, _-_, _*_, _/_, _%_, _≤_}
 use native.Mathlib.Omega.{arith}
 use mathlib.Core.Path.{_≡_, refl, ap, sym, subst, _∙_}
 use mathlib.Core.Logic.{_⊎_, inl, inr}
-use mathlib.Core.Bool.{Bool, true, false, not, _&&_, _||_, cond}
+use mathlib.Core.Bool.{Bool, true, false, _&&_, _||_, cond}
 use mathlib.Core.List.{List, [], _∷_, _++_, map}
 use lib.ListN.{length}
-use lib.Dec.{T, ltb, leb, eqb, eqb-refl, eqb→eq}
-use lib.Dec.{nltb→le}
+use lib.Dec.{T, leb, eqb, eqb-refl, eqb→eq}
 use mathlib.Core.List.{List·Memᴰ, List·Memᴰ·not-nil, List·Memᴰ·cases-cons, List·Memᴰ·append-cases}
 use Rattle.wire.specs.declared.ids.Stream.{Stream}
 use Rattle.wire.specs.declared.ids.BusId.{BusId}
-use Rattle.wire.specs.declared.reply.Reply.{Reply}
 use Rattle.node.specs.declared.slots.Slot.{Slot}
 use Rattle.node.specs.declared.Node.{Node}
-use Rattle.wire.specs.declared.reply.Reply.the-variants.{BadFrame, NotMine, Misfit, Clash, BadLength, NotSender, Busy, Nothing}
-use Rattle.wire.specs.Classes.{carries}
-use Rattle.wire.specs.Frames.{maxPayload, badFrame}
 use Rattle.wire.specs.Identifiers.{maxStream, maxBusId, streamOf, codeOf}
 use Rattle.wire.specs.Settings.{receives, sends, isPlain}
 use Rattle.node.specs.Calls.{hear, tick, request, nextFrame, outcome}
 use Rattle.node.specs.Clock.{unbounded}
-use Rattle.node.specs.Hear.{clashes, heardBy, deliveredAtOnce}
-use Rattle.node.specs.NextFrame.{one, lowest, idsFrom, pendingCodes, pendingIds, pendingIn, payloadCode, give, givenOut, payloadFor}
-use Rattle.node.specs.Nodes.{done, refused, slotOf, onSlot, Outcome}
+use Rattle.node.specs.Hear.{heardBy, deliveredAtOnce}
+use Rattle.node.specs.NextFrame.{one, idsFrom, pendingCodes, pendingIds, pendingIn, payloadCode, give, givenOut, payloadFor}
+use Rattle.node.specs.Selection.{lowestOrAbove}
+use Rattle.node.specs.Nodes.{slotOf, onSlot, Outcome}
 use Rattle.node.specs.Reachable.{KeptSlot, All, Distinct, Kept}
-use Rattle.node.specs.Request.{busy, requested}
-use Rattle.node.specs.Slots.{empty, payloadOf, isOf, isReceiver, isSender, first, onFirst, some}
-use Rattle.node.specs.Tick.{due, tickSlot, dueSlots}
+use Rattle.node.specs.Request.{requested}
+use Rattle.node.specs.Slots.{empty, payloadOf, isOf, first, onFirst, some}
+use Rattle.node.specs.Tick.{due, tickSlot, dueSlots, ticked}
+use Rattle.node.proofs.Choices.{either-way, refuted}
+use Rattle.node.proofs.Cases.{by-case}
+use Rattle.node.proofs.hear.Cases.{HearFacts, takes-says, takes-back, hear-cases}
+use Rattle.node.proofs.hear.Cases as node-hear
+use Rattle.node.proofs.tick.Cases.{tick-cases}
+use Rattle.node.proofs.request.Cases.{RequestFacts, accepts-says, accepts-back, request-cases}
+use Rattle.node.proofs.request.Cases as node-request
+use Rattle.node.proofs.next_frame.Cases.{next-cases}
 use Rattle.node.proofs.tick.Ascending.{Before, Ascends, due-ascend, only-due, due-of-stream}
 use Rattle.node.proofs.kept.EachSlot.{kept-empty}
 use Rattle.node.proofs.tick.Tests.{Due, due-tells}
@@ -41,10 +45,6 @@ use Rattle.bench.specs.Events.{lent, onto, deliveries}
 use Rattle.bench.specs.Lists.{keepOnly}
 use Rattle.bench.specs.Rules.{keeps}
 use Rattle.bench.specs.SetUp.{isDone}
-use Rattle.node.specs.Hear as Hear
-use Rattle.node.specs.Tick as Tick
-use Rattle.node.specs.Request as Request
-use Rattle.node.specs.NextFrame as NextFrame
 
 -- ── the table: the first slot of a stream, after a change of the first slot of a stream ──
 abbrev pub Same : Stream → Stream → Type 0
@@ -97,78 +97,68 @@ slot-kept s n k = all-first (KeptSlot (n .counter)) (isOf s) (kept-empty (n .cou
 -- ── hearing ──
 -- the slot takes the frame
 abbrev pub takes : BusId → (dlc : ℕ) → List ℕ → Slot → Bool
-takes id dlc p x =
-    not (badFrame id dlc (length p)) && (isReceiver x && (carries (x .settings .class) (codeOf id) && not (clashes (codeOf id) p x)))
+takes id dlc p x = node-hear.takes id dlc p x
 
 abbrev pub hearing : BusId → List ℕ → Node → Outcome
 hearing id p n = outcome unbounded (hear id (length p) p lent) n
 
--- a refusal leaves the slot alone
-module _ (s : Stream) (n : Node) (r : Reply) (o : Outcome) (y : Slot) where
-  if-so : (t b : Bool) → (T t → slotOf s (o .node) ≡ cond b y (slotOf s n))
-      → slotOf s (cond (not t) (refused n r) o .node) ≡ cond (t && b) y (slotOf s n)
-  if-so true b h = h tt
-  if-so false b h = refl
+facts : (id : BusId) (p : List ℕ) (x : Slot) → takes id (length p) p x ≡ true → HearFacts id (length p) p lent x
+facts id p x t = takes-says id (length p) p lent x (omega arith) t
 
-  unless : (t b : Bool) → (T (not t) → slotOf s (o .node) ≡ cond b y (slotOf s n))
-      → slotOf s (cond t (refused n r) o .node) ≡ cond (not t && b) y (slotOf s n)
-  unless true b h = refl
-  unless false b h = h tt
-
-  unless-last : (t : Bool) → slotOf s (o .node) ≡ y → slotOf s (cond t (refused n r) o .node) ≡ cond (not t) y (slotOf s n)
-  unless-last true h = refl
-  unless-last false h = h
+-- what hearing leaves in the node, and what it writes
+pub hears : (id : BusId) (p : List ℕ) (n : Node) → (let s = streamOf id in
+    let t = takes id (length p) p (slotOf s n) in
+    (hearing id p n .node ≡ cond t (onSlot s (heardBy (n .counter) (codeOf id) p) n) n) × (hearing id p n .bytes ≡ cond t (deliveredAtOnce id p) []))
+hears id p n =
+    let x = slotOf (streamOf id) n in
+    let t = takes id (length p) p x in
+    let law = hear-cases id (length p) p lent n in
+    by-case {n = n} {result = node-hear.heard id (length p) p lent n}
+    (λ (o : Outcome).
+    (o .node ≡ cond t (onSlot (streamOf id) (heardBy (n .counter) (codeOf id) p) n) n) × (o .bytes ≡ cond t (deliveredAtOnce id p) []))
+    (λ r why. let no : t ≡ false = refuted t (λ h. law .not-both r why (facts id p x h)) in rw no (refl, refl))
+    (λ h. rw (takes-back id (length p) p lent x h) (refl, refl)) (law .case)
 
 pub hear-own : (id : BusId) (p : List ℕ) (n : Node) → (let x = slotOf (streamOf id) n in
     slotOf (streamOf id) (hearing id p n .node) ≡ cond (takes id (length p) p x) (heardBy (n .counter) (codeOf id) p x) x)
-unfolding Hear.hear
-hear-own id p n =
-    let s = streamOf id in
-    let x = slotOf s n in
-    let y = heardBy (n .counter) (codeOf id) p x in
-    unless s n BadFrame _ y (badFrame id (length p) (length p)) _ λ good.
-    if-so s n NotMine _ y (isReceiver x) _ λ own.
-    if-so s n Misfit _ y (carries (x .settings .class) (codeOf id)) _ λ fits.
-    unless-last s n Clash _ y (clashes (codeOf id) p x)
-    (slot-of-changed s (heardBy (n .counter) (codeOf id) p) (heard-keeps (n .counter) (codeOf id) p) n
-    (is-true (x .used) (and-l (x .used) (receives (x .settings)) own)))
+hear-own id p n = ap (slotOf s) (hears id p n .0) ∙ go (takes id (length p) p x) (facts id p x)
+  where
+    s : Stream
+    s = streamOf id
 
--- what a refusal or a change of another stream's slot leaves alone
-other-if : (s : Stream) (n : Node) (t : Bool) (r : Reply) (o : Outcome) → slotOf s (o .node) ≡ slotOf s n
-    → slotOf s (cond t (refused n r) o .node) ≡ slotOf s n
-other-if s n true r o h = refl
-other-if s n false r o h = h
+    x : Slot
+    x = slotOf s n
+
+    go : (b : Bool) → (b ≡ true → HearFacts id (length p) p lent x)
+        → slotOf s (cond b (onSlot s (heardBy (n .counter) (codeOf id) p) n) n) ≡ cond b (heardBy (n .counter) (codeOf id) p x) x
+    go true h =
+        slot-of-changed s (heardBy (n .counter) (codeOf id) p) (heard-keeps (n .counter) (codeOf id) p) n
+        (is-true (x .used) (and-l (x .used) (receives (x .settings)) (so (h refl .own))))
+    go false h = refl
 
 pub hear-other : (s : Stream) (id : BusId) (p : List ℕ) (n : Node) → (Same s (streamOf id) → ⊥)
     → slotOf s (hearing id p n .node) ≡ slotOf s n
-unfolding Hear.hear
 hear-other s id p n other =
-    other-if s n (badFrame id (length p) (length p)) BadFrame _
-    (other-if s n (not (isReceiver (slotOf (streamOf id) n))) NotMine _
-    (other-if s n (not (carries (slotOf (streamOf id) n .settings .class) (codeOf id))) Misfit _
-    (other-if s n (clashes (codeOf id) p (slotOf (streamOf id) n)) Clash _
-    (first-other (heardBy (n .counter) (codeOf id) p) (heard-keeps (n .counter) (codeOf id) p) s (streamOf id) other (n .slots)))))
+    ap (slotOf s) (hears id p n .0)
+    ∙ either-way (slotOf s) (takes id (length p) p (slotOf (streamOf id) n))
+    (first-other (heardBy (n .counter) (codeOf id) p) (heard-keeps (n .counter) (codeOf id) p) s (streamOf id) other (n .slots)) refl
 
 -- hearing delivers at once only what is plain
 pub hear-bytes : (id : BusId) (p : List ℕ) (n : Node) → (T (eqb (codeOf id) 3) → ⊥) → hearing id p n .bytes ≡ []
-unfolding Hear.hear deliveredAtOnce
+unfolding deliveredAtOnce
 hear-bytes id p n not-plain =
-    none (badFrame id (length p) (length p)) BadFrame _
-    (none (not (isReceiver (slotOf (streamOf id) n))) NotMine _
-    (none (not (carries (slotOf (streamOf id) n .settings .class) (codeOf id))) Misfit _
-    (none (clashes (codeOf id) p (slotOf (streamOf id) n)) Clash _ (cond-false (eqb (codeOf id) 3) _ [] not-plain))))
-  where
-    none : (t : Bool) (r : Reply) (o : Outcome) → o .bytes ≡ [] → cond t (refused n r) o .bytes ≡ []
-    none true r o h = refl
-    none false r o h = h
+    hears id p n .1
+    ∙ either-way (λ (l : List ℕ). l) (takes id (length p) p (slotOf (streamOf id) n)) (cond-false (eqb (codeOf id) 3) _ [] not-plain) refl
 
 -- ── a tick ──
 abbrev pub ticking : Node → Outcome
 ticking n = outcome unbounded (tick lent) n
 
+ticks : (n : Node) → ticking n .node ≡ ticked unbounded n
+ticks n = ap (λ (o : Outcome). o .node) (tick-cases lent unbounded n .accepted-if (record { room = omega arith }))
+
 pub tick-slot : (s : Stream) (n : Node) → slotOf s (ticking n .node) ≡ tickSlot unbounded (n .counter + 1) (slotOf s n)
-unfolding Tick.tick
-tick-slot s n = slot-of-ticked unbounded s n
+tick-slot s n = ap (slotOf s) (ticks n) ∙ slot-of-ticked unbounded s n
 
 -- ── a request ──
 abbrev pub asking : Stream → List ℕ → Node → Outcome
@@ -176,70 +166,55 @@ asking s p n = outcome unbounded (request s p) n
 
 -- the slot accepts it
 abbrev pub accepts : List ℕ → Slot → Bool
-accepts p x = not (ltb maxPayload (length p)) && (isSender x && not (busy x))
+accepts p x = node-request.accepts p x
+
+-- what a request leaves in the node, and whether it is taken
+asks : (s : Stream) (p : List ℕ) (n : Node) → (let t = accepts p (slotOf s n) in
+    (asking s p n .node ≡ cond t (onSlot s (requested (n .counter) p) n) n) × (isDone (asking s p n .reply) ≡ t))
+asks s p n =
+    let x = slotOf s n in
+    let t = accepts p x in
+    let law = request-cases p s n in
+    by-case {n = n} {result = node-request.taken p s n}
+    (λ (o : Outcome). (o .node ≡ cond t (onSlot s (requested (n .counter) p) n) n) × (isDone (o .reply) ≡ t))
+    (λ r why. let no : t ≡ false = refuted t (λ h. law .not-both r why (accepts-says p x h)) in rw no (refl, law .not-done r why))
+    (λ h. rw (accepts-back p x h) (refl, refl)) (law .case)
 
 pub ask-own : (s : Stream) (p : List ℕ) (n : Node) → (let x = slotOf s n in
     slotOf s (asking s p n .node) ≡ cond (accepts p x) (requested (n .counter) p x) x)
-unfolding Request.request
-ask-own s p n =
-    let x = slotOf s n in
-    let y = requested (n .counter) p x in
-    unless s n BadLength _ y (ltb maxPayload (length p)) _ λ small.
-    if-so s n NotSender _ y (isSender x) _ λ own.
-    unless-last s n Busy _ y (busy x)
-    (slot-of-changed s (requested (n .counter) p) (requested-keeps (n .counter) p) n
-    (is-true (x .used) (and-l (x .used) (sends (x .settings)) own)))
+ask-own s p n = ap (slotOf s) (asks s p n .0) ∙ go (accepts p x) (accepts-says p x)
+  where
+    x : Slot
+    x = slotOf s n
+
+    go : (b : Bool) → (b ≡ true → RequestFacts p x)
+        → slotOf s (cond b (onSlot s (requested (n .counter) p) n) n) ≡ cond b (requested (n .counter) p x) x
+    go true h =
+        slot-of-changed s (requested (n .counter) p) (requested-keeps (n .counter) p) n
+        (is-true (x .used) (and-l (x .used) (sends (x .settings)) (so (h refl .own))))
+    go false h = refl
 
 pub ask-other : (s z : Stream) (p : List ℕ) (n : Node) → (Same s z → ⊥) → slotOf s (asking z p n .node) ≡ slotOf s n
-unfolding Request.request
 ask-other s z p n other =
-    other-if s n (ltb maxPayload (length p)) BadLength _
-    (other-if s n (not (isSender (slotOf z n))) NotSender _
-    (other-if s n (busy (slotOf z n)) Busy _
-    (first-other (requested (n .counter) p) (requested-keeps (n .counter) p) s z other (n .slots))))
+    ap (slotOf s) (asks z p n .0)
+    ∙ either-way (slotOf s) (accepts p (slotOf z n))
+    (first-other (requested (n .counter) p) (requested-keeps (n .counter) p) s z other (n .slots)) refl
 
 pub ask-reply : (s : Stream) (p : List ℕ) (n : Node) → isDone (asking s p n .reply) ≡ accepts p (slotOf s n)
-unfolding Request.request
-ask-reply s p n = go (ltb maxPayload (length p)) (isSender (slotOf s n)) (busy (slotOf s n))
-  where
-    go : (a b c : Bool)
-        → isDone (cond a (refused n BadLength)
-        (cond (not b) (refused n NotSender) (cond c (refused n Busy) (done (onSlot s (requested (n .counter) p) n) []))) .reply)
-        ≡ (not a && (b && not c))
-    go true b c = refl
-    go false false c = refl
-    go false true true = refl
-    go false true false = refl
+ask-reply s p n = asks s p n .1
 
 -- ── counters ──
+abbrev counterOf : Node → ℕ
+counterOf n = n .counter
+
 pub hear-counter : (id : BusId) (p : List ℕ) (n : Node) → hearing id p n .node .counter ≡ n .counter
-unfolding Hear.hear
-hear-counter id p n =
-    same (badFrame id (length p) (length p)) BadFrame _
-    (same (not (isReceiver (slotOf (streamOf id) n))) NotMine _
-    (same (not (carries (slotOf (streamOf id) n .settings .class) (codeOf id))) Misfit _
-    (same (clashes (codeOf id) p (slotOf (streamOf id) n)) Clash _ refl)))
-  where
-    same : (t : Bool) (r : Reply) (o : Outcome) → o .node .counter ≡ n .counter → cond t (refused n r) o .node .counter ≡ n .counter
-    same true r o h = refl
-    same false r o h = h
+hear-counter id p n = ap counterOf (hears id p n .0) ∙ either-way counterOf (takes id (length p) p (slotOf (streamOf id) n)) refl refl
 
 pub tick-counter : (n : Node) → ticking n .node .counter ≡ n .counter + 1
-unfolding Tick.tick
-tick-counter n = refl
+tick-counter n = ap counterOf (ticks n)
 
 pub ask-counter : (s : Stream) (p : List ℕ) (n : Node) → asking s p n .node .counter ≡ n .counter
-unfolding Request.request
-ask-counter s p n = go (ltb maxPayload (length p)) (isSender (slotOf s n)) (busy (slotOf s n))
-  where
-    go : (a b c : Bool)
-        → cond a (refused n BadLength) (cond (not b) (refused n NotSender)
-        (cond c (refused n Busy) (done (onSlot s (requested (n .counter) p) n) []))) .node .counter
-        ≡ n .counter
-    go true b c = refl
-    go false false c = refl
-    go false true true = refl
-    go false true false = refl
+ask-counter s p n = ap counterOf (asks s p n .0) ∙ either-way counterOf (accepts p (slotOf s n)) refl refl
 
 -- ── the next frame ──
 abbrev pub giving : Node → Outcome
@@ -342,25 +317,18 @@ pending-in i (x ∷ xs) d h = go (List·Memᴰ·append-cases (pendingIn x) h) (p
 -- the module has a next frame
 module _ (n : Node) (k : Kept n) (given : T (isDone (giving n .reply))) where
   abbrev low : ℕ
-  low = lowest (pendingIds (n .slots))
+  low = lowestOrAbove (pendingIds (n .slots))
+
+  gave-low : (giving n ≡ give (record { 0 = low }) n) × (low ≤ maxBusId)
+  gave-low =
+      by-case (λ (o : Outcome). T (isDone (o .reply)) → (o ≡ give (record { 0 = low }) n) × (low ≤ maxBusId))
+      (λ r why done. absurd (not-so (next-cases lent n .not-done r why) done)) (λ h done. (refl, h .pending)) (next-cases lent n .case) given
 
   gave : giving n ≡ give (record { 0 = low }) n
-  unfolding NextFrame.nextFrame
-  gave = go (ltb maxBusId low) given
-    where
-      go : (t : Bool) → T (isDone (cond t (refused n Nothing) (give (record { 0 = low }) n) .reply))
-          → cond t (refused n Nothing) (give (record { 0 = low }) n) ≡ give (record { 0 = low }) n
-      go true h = absurd h
-      go false h = refl
+  gave = gave-low .0
 
   low-small : low ≤ maxBusId
-  unfolding NextFrame.nextFrame
-  low-small = go (ltb maxBusId low) (nltb→le maxBusId low) given
-    where
-      go : (t : Bool) → (T (not t) → low ≤ maxBusId) → T (isDone (cond t (refused n Nothing) (give (record { 0 = low }) n) .reply))
-          → low ≤ maxBusId
-      go true f h = absurd h
-      go false f h = f tt
+  low-small = gave-low .1
 
   where-pending : PendingIn low (n .slots)
   where-pending = pending-in low (n .slots) (k .distinct) (lowest-is-one (pendingIds (n .slots)) low-small)
@@ -396,27 +364,17 @@ module _ (n : Node) (k : Kept n) (given : T (isDone (giving n .reply))) where
       (ap (λ (o : Outcome). o .bytes) gave)
 
 pub next-other : (s : Stream) (n : Node) → (Same s (streamOf (giving n .id)) → ⊥) → slotOf s (giving n .node) ≡ slotOf s n
-unfolding NextFrame.nextFrame give
-next-other s n = go (ltb maxBusId (lowest (pendingIds (n .slots))))
+unfolding give
+next-other s n =
+    by-case (λ (o : Outcome). (Same s (streamOf (o .id)) → ⊥) → slotOf s (o .node) ≡ slotOf s n) (λ r why other. refl)
+    (λ h other. first-other (givenOut (codeOf (id n))) (given-out-keeps (codeOf (id n))) s (streamOf (id n)) other (n .slots)) (next-cases lent n .case)
   where
-    o : Outcome
-    o = give (record { 0 = lowest (pendingIds (n .slots)) }) n
-
-    go : (t : Bool) → (Same s (streamOf (cond t (refused n Nothing) o .id)) → ⊥)
-        → slotOf s (cond t (refused n Nothing) o .node) ≡ slotOf s n
-    go true other = refl
-    go false other = first-other (givenOut (codeOf (o .id))) (given-out-keeps (codeOf (o .id))) s (streamOf (o .id)) other (n .slots)
+    id : Node → BusId
+    id n = record { 0 = lowestOrAbove (pendingIds (n .slots)) }
 
 pub next-counter : (n : Node) → giving n .node .counter ≡ n .counter
-unfolding NextFrame.nextFrame give
-next-counter n = go (ltb maxBusId (lowest (pendingIds (n .slots))))
-  where
-    o : Outcome
-    o = give (record { 0 = lowest (pendingIds (n .slots)) }) n
-
-    go : (t : Bool) → cond t (refused n Nothing) o .node .counter ≡ n .counter
-    go true = refl
-    go false = refl
+unfolding give
+next-counter n = by-case (λ (o : Outcome). o .node .counter ≡ n .counter) (λ r why. refl) (λ h. refl) (next-cases lent n .case)
 
 -- ── what a tick delivers of one stream ──
 abbrev ofStream : Stream → Slot → Bool

@@ -2,15 +2,15 @@
 -- of it that another node gives out, which has the same slot for this stream and others besides.
 use Prim.Native.Nat.{ℕ, _+_, _*_, _/_, _≤_}
 use native.Mathlib.Omega.{arith}
-use mathlib.Core.Path.{_≡_, ap, sym, subst, _∙_}
+use mathlib.Core.Path.{_≡_, refl, ap, sym, subst, _∙_}
 use mathlib.Core.Logic.{_⊎_, inl, inr}
 use mathlib.Core.Bool.{Bool, true, false, cond, _&&_}
 use mathlib.Core.List.{List, [], _∷_, _++_}
-use lib.Dec.{T, eqb, leb, ltb, eqb→eq}
-use borrow.Author.Tests.{le-leb, le-ltb}
+use lib.Dec.{T, eqb, leb, eqb→eq}
+use borrow.Author.Tests.{le-leb, ltb-false}
 use Rattle.wire.specs.declared.ids.Stream.{Stream}
 use Rattle.wire.specs.declared.ids.BusId.{BusId}
-use Rattle.wire.specs.Identifiers.{maxStream, maxBusId, streamOf, codeOf}
+use Rattle.wire.specs.Identifiers.{maxStream, streamOf, codeOf}
 use Rattle.wire.specs.Settings.{isPlain}
 use Rattle.wire.proofs.LegalSettings.{legal-tells}
 use Rattle.node.specs.declared.slots.Slot.{Slot}
@@ -18,11 +18,13 @@ use Rattle.node.specs.declared.Node.{Node}
 use Rattle.node.specs.Slots.{isOf, first}
 use Rattle.node.specs.Nodes.{slotOf}
 use Rattle.node.specs.Reachable.{Kept}
-use Rattle.node.specs.NextFrame as NextFrame
-use Rattle.node.specs.NextFrame.{one, idsFrom, payloadCode, pendingCodes, pendingIn, pendingIds, lowest, payloadFor, give}
+use Rattle.node.specs.NextFrame.{one, idsFrom, payloadCode, pendingCodes, pendingIn, pendingIds, payloadFor, give}
+use Rattle.node.specs.Selection.{lowestOrAbove}
 use Rattle.node.proofs.next_frame.Lowest.{lowest-append}
+use Rattle.node.proofs.next_frame.Cases.{next-cases}
 use Rattle.one_stream.proofs.Truth.{cond-elim, and-r, both, is-true, so}
 use Rattle.bench.specs.SetUp.{isDone}
+use Rattle.bench.specs.Events.{lent}
 use Rattle.bench.proofs.laws.SlotAfterCall.{Same, slot-kept, giving, IsPending, thePayload, theConfirmation, theAbort}
 use Rattle.bench.proofs.laws.SlotAfterCall.{stream-of-slot, next-used, next-pending, next-bytes}
 use Rattle.bench.proofs.laws.ModuleAfterEvent.{decide-stream}
@@ -34,15 +36,15 @@ small-code x (thePayload t) = cond-elim (λ n. n ≤ 3) (isPlain (x .settings)) 
 small-code x (theConfirmation t) = omega arith
 small-code x (theAbort t) = omega arith
 
-lowest-in-slot : (x : Slot) (stream : ℕ) {c : ℕ} → IsPending x c → lowest (idsFrom stream (pendingCodes x)) ≤ stream * 4 + c
-unfolding lowest
+lowest-in-slot : (x : Slot) (stream : ℕ) {c : ℕ} → IsPending x c → lowestOrAbove (idsFrom stream (pendingCodes x)) ≤ stream * 4 + c
+unfolding lowestOrAbove
 lowest-in-slot x stream p = of p (x .pending .payload) (x .pending .confirmation) (x .pending .abort) (λ t. t) (λ t. t) (λ t. t)
   where
     code : ℕ
     code = payloadCode x
 
     Low : (a b c : Bool) → ℕ → Type 0
-    Low a b c k = lowest (idsFrom stream (one a code ++ one b 1 ++ one c 2)) ≤ stream * 4 + k
+    Low a b c k = lowestOrAbove (idsFrom stream (one a code ++ one b 1 ++ one c 2)) ≤ stream * 4 + k
 
     payload : (a b c : Bool) → T a → Low a b c code
     payload true true c t = omega arith
@@ -68,19 +70,19 @@ lowest-in-slot x stream p = of p (x .pending .payload) (x .pending .confirmation
     of (theAbort t) a b c f g h = abort a b c (h t)
 
 lowest-in-table : (s : Stream) → s .0 ≤ maxStream → (xs : List Slot) {c : ℕ} → T (first (isOf s) xs .used)
-    → IsPending (first (isOf s) xs) c → lowest (pendingIds xs) ≤ s .0 * 4 + c
+    → IsPending (first (isOf s) xs) c → lowestOrAbove (pendingIds xs) ≤ s .0 * 4 + c
 unfolding first pendingIds pendingIn
 lowest-in-table s small [] used p = absurd used
 lowest-in-table s small (x ∷ xs) {c} used p = go (isOf s x) (λ t. t) used p (lowest-in-table s small xs)
   where
     go : (t : Bool) → (T t → T (isOf s x)) → T (cond t x (first (isOf s) xs) .used) → IsPending (cond t x (first (isOf s) xs)) c
-        → (T (first (isOf s) xs .used) → IsPending (first (isOf s) xs) c → lowest (pendingIds xs) ≤ s .0 * 4 + c)
-        → lowest (pendingIn x ++ pendingIds xs) ≤ s .0 * 4 + c
+        → (T (first (isOf s) xs .used) → IsPending (first (isOf s) xs) c → lowestOrAbove (pendingIds xs) ≤ s .0 * 4 + c)
+        → lowestOrAbove (pendingIn x ++ pendingIds xs) ≤ s .0 * 4 + c
     go true own used p rest =
         let stream = eqb→eq (x .stream .0) (s .0) (and-r (x .used) (eqb (x .stream .0) (s .0)) (own tt)) in
         let legal : (x .used && leb (x .stream .0) maxStream) ≡ true =
         is-true _ (both (x .used) (leb (x .stream .0) maxStream) used (so (le-leb (x .stream .0) maxStream (omega arith)))) in
-        let here : lowest (pendingIn x) ≤ s .0 * 4 + c = rw (legal, ← stream) (lowest-in-slot x (x .stream .0) p) in
+        let here : lowestOrAbove (pendingIn x) ≤ s .0 * 4 + c = rw (legal, ← stream) (lowest-in-slot x (x .stream .0) p) in
         omega (arith, lowest-append (pendingIn x) (pendingIds xs))
     go false own used p rest = omega (arith, rest used p, lowest-append (pendingIn x) (pendingIds xs))
 
@@ -93,13 +95,13 @@ module _ (s : Stream) (n : Node) (k : Kept n) where
 
   -- where a frame is pending, there is a next frame, and it is no higher
   pub lowest-given : {c : ℕ} → T (slotOf s n .used) → IsPending (slotOf s n) c → T (isDone (giving n .reply)) × (giving n .id .0 ≤ s .0 * 4 + c)
-  unfolding NextFrame.nextFrame give
+  unfolding give
   lowest-given {c} used p =
       let low = lowest-in-table s (stream-small used) (n .slots) used p in
       let small = stream-small used in
       let code = small-code (slotOf s n) p in
-      let there : ltb maxBusId (lowest (pendingIds (n .slots))) ≡ false = le-ltb maxBusId (lowest (pendingIds (n .slots))) (omega arith) in
-      rw there (tt, low)
+      let gave = next-cases lent n .accepted-if (record { room = ltb-false 512 8 refl; pending = omega arith }) in
+      rw gave (tt, low)
 
 -- ── two nodes ──
 pub record SameNext (n n′ : Node) : Type 0 where

@@ -11,27 +11,27 @@ use lib.Dec.{T, eqb, eqb→eq, T-not}
 use Rattle.wire.specs.declared.ids.Stream.{Stream}
 use Rattle.wire.specs.declared.ids.BusId.{BusId}
 use Rattle.wire.specs.Classes.{carries}
-use Rattle.wire.specs.Frames.{badFrame}
 use Rattle.wire.specs.Identifiers.{streamOf, codeOf}
 use Rattle.wire.specs.Settings.{receives, isPlain}
 use Rattle.node.specs.declared.slots.Slot.{Slot}
 use Rattle.node.specs.declared.Node.{Node}
 use Rattle.node.specs.Clock.{unbounded}
 use Rattle.node.specs.Slots.{isReceiver}
-use Rattle.node.specs.Nodes.{slotOf}
-use Rattle.node.specs.Hear.{clashes, deliveredAtOnce}
+use Rattle.node.specs.Nodes.{Outcome, slotOf}
+use Rattle.node.specs.Hear.{deliveredAtOnce}
 use Rattle.node.specs.Tick.{dueSlots}
 use Rattle.node.specs.Reachable.{All, Kept}
+use Rattle.node.proofs.Cases.{by-case}
+use Rattle.node.proofs.hear.Cases.{hear-cases}
 use Rattle.node.proofs.slots.Streams.{Kind}
 use Rattle.node.proofs.tick.Ascending.{Ascends, due-ascend}
-use Rattle.one_stream.proofs.Truth.{cond-elim, both, is-true, so}
+use Rattle.one_stream.proofs.Truth.{cond-elim, both, so}
 use Rattle.bench.specs.Bench.{Delivery, Frame, Module, Bench, moduleAt, bookOf, frameOf, ownerOf}
 use Rattle.bench.specs.SetUp.{Plan, proper, start}
-use Rattle.bench.specs.Events.{Event, asks, gives, sends, ticks, dies, named, isAccepted, isNext, withNode, atOnce, onto, deliveries, ticked, step, run}
+use Rattle.bench.specs.Events.{Event, asks, gives, sends, ticks, dies, lent, named, isAccepted, isNext, withNode, atOnce, onto, deliveries, ticked, step, run}
 use Rattle.bench.specs.Demands.{Has, Before}
 use Rattle.bench.proofs.laws.SlotAfterCall.{hearing, hear-counter, ticking, tick-counter, asking, ask-counter, giving, next-counter, deliveryOf}
 use Rattle.bench.proofs.laws.ModuleAfterEvent.{hearsFrame, stepModule, module-step, moved-step}
-use Rattle.bench.proofs.laws.RecordsAreDeliveries.{hear-writes}
 use Rattle.bench.proofs.demand3.PlanGives.{start-kept}
 use Rattle.bench.proofs.laws.AtStart.{log-at-start}
 
@@ -62,9 +62,9 @@ plain-carries (suc (suc (suc class))) e = absurd (false≢true e)
 pub heard-plain : (f : Frame) (m : Module) → T (not (eqb (length (hearing (f .id) (f .payload) (m .node) .bytes)) 0))
     → T (receivesPlain (streamOf (f .id)) (m .node))
 unfolding deliveredAtOnce
-heard-plain f m t =
-    go (badFrame id (length p) (length p)) (isReceiver x) (carries (x .settings .class) (codeOf id)) (not (clashes (codeOf id) p x)) (eqb (codeOf id) 3) _
-    (λ h. h) (eqb→eq (codeOf id) 3) (λ h. h) (subst (λ bytes. T (not (eqb (length bytes) 0))) (hear-writes id p (m .node)) t)
+heard-plain f m =
+    by-case (λ (o : Outcome). T (not (eqb (length (o .bytes)) 0)) → T (receivesPlain (streamOf id) (m .node))) (λ r why t. absurd t)
+    (λ h. plain (eqb (codeOf id) 3) (eqb→eq (codeOf id) 3) _ (h .own) (h .fits)) (hear-cases id (length p) p lent (m .node) .case)
   where
     id : BusId
     id = f .id
@@ -75,17 +75,12 @@ heard-plain f m t =
     x : Slot
     x = slotOf (streamOf id) (m .node)
 
-    go : (bad own fits free plain : Bool) (r : List ℕ) → (T own → T (isReceiver x)) → (T plain → codeOf id ≡ 3)
-        → (T fits → T (carries (x .settings .class) (codeOf id)))
-        → T (not (eqb (length (cond (not bad && (own && (fits && free))) (cond plain r []) [])) 0)) → T (receivesPlain (streamOf id) (m .node))
-    go true own fits free plain r a b c t = absurd t
-    go false false fits free plain r a b c t = absurd t
-    go false true false free plain r a b c t = absurd t
-    go false true true false plain r a b c t = absurd t
-    go false true true true false r a b c t = absurd t
-    go false true true true true r a b c t =
-        both (isReceiver x) (isPlain (x .settings)) (a tt)
-        (so (plain-carries (x .settings .class) (is-true _ (subst (λ code. T (carries (x .settings .class) code)) (b tt) (c tt)))))
+    plain : (b : Bool) → (T b → codeOf id ≡ 3) → (r : List ℕ) → isReceiver x ≡ true → carries (x .settings .class) (codeOf id) ≡ true
+        → T (not (eqb (length (cond b r [])) 0)) → T (receivesPlain (streamOf id) (m .node))
+    plain true code r own fits t =
+        both (isReceiver x) (isPlain (x .settings)) (so own)
+        (so (plain-carries (x .settings .class) (subst (λ c. carries (x .settings .class) c ≡ true) (code tt) fits)))
+    plain false code r own fits t = absurd t
 
 -- nothing in the log is later than t
 abbrev Until : ℕ → List Delivery → Type 0

@@ -1,6 +1,6 @@
 -- Hearing a frame, by cases: refused, or taken with what the slot of its stream and the frame then have.
-use mathlib.Core.Path.{_≡_, ap}
-use mathlib.Core.Bool.{true, false, not}
+use mathlib.Core.Path.{_≡_, refl, ap}
+use mathlib.Core.Bool.{Bool, true, false, not, _&&_, false≢true}
 use mathlib.Core.List.{List}
 use Prim.Native.Nat.{ℕ, _≤_}
 use borrow.Author.Tests.{ltb-false, not-false, le-ltb}
@@ -15,6 +15,11 @@ use Rattle.node.specs.Slots.{isReceiver}
 use Rattle.node.specs.Nodes.{slotOf, onSlot, Outcome, done}
 use Rattle.node.specs.Hear.{hearRoom, clashes, heardBy, deliveredAtOnce, hearRefusals, hear}
 use Rattle.node.proofs.Cases.{Passes, Cases, cases}
+
+-- the slot takes the frame
+abbrev pub takes : BusId → (dlc : ℕ) → (payload : List ℕ) → Slot → Bool
+takes id dlc payload x =
+    not (badFrame id dlc (length payload)) && (isReceiver x && (carries (x .settings .class) (codeOf id) && not (clashes (codeOf id) payload x)))
 
 module _ (id : BusId) (dlc : ℕ) (payload output : List ℕ) where
   pub record HearFacts (x : Slot) : Type 0 where
@@ -31,6 +36,22 @@ module _ (id : BusId) (dlc : ℕ) (payload output : List ℕ) where
   pub hear-passes : (x : Slot) → HearFacts x → Passes (hearRefusals id dlc payload output x)
   hear-passes x h = (le-ltb _ _ (h .room), (h .good, (ap not (h .own), (ap not (h .fits), (h .agrees, tt)))))
 
+  -- the same as a test of the slot, where the output is long enough
+  pub takes-says : (x : Slot) → hearRoom ≤ length output → takes id dlc payload x ≡ true → HearFacts x
+  takes-says x room t =
+      go (badFrame id dlc (length payload)) (isReceiver x) (carries (x .settings .class) (codeOf id)) (clashes (codeOf id) payload x) refl refl refl refl t
+    where
+      go : (a b c d : Bool) → badFrame id dlc (length payload) ≡ a → isReceiver x ≡ b → carries (x .settings .class) (codeOf id) ≡ c
+          → clashes (codeOf id) payload x ≡ d → (not a && (b && (c && not d))) ≡ true → HearFacts x
+      go false true true false good own fits agrees t = record { room = room; good = good; own = own; fits = fits; agrees = agrees }
+      go true b c d good own fits agrees t = absurd (false≢true t)
+      go false false c d good own fits agrees t = absurd (false≢true t)
+      go false true false d good own fits agrees t = absurd (false≢true t)
+      go false true true true good own fits agrees t = absurd (false≢true t)
+
+  pub takes-back : (x : Slot) → HearFacts x → takes id dlc payload x ≡ true
+  takes-back x h = rw (h .good, h .own, h .fits, h .agrees)
+
   module _ (n : Node) where
     abbrev slot : Slot
     slot = slotOf (streamOf id) n
@@ -40,4 +61,4 @@ module _ (id : BusId) (dlc : ℕ) (payload output : List ℕ) where
 
     pub hear-cases : Cases n (hearRefusals id dlc payload output slot) (HearFacts slot) heard (hear id dlc payload output n)
     unfolding hear
-    hear-cases = cases n (hearRefusals id dlc payload output slot) heard (hear-facts slot) (hear-passes slot)
+    hear-cases = cases n (hearRefusals id dlc payload output slot) heard refl (hear-facts slot) (hear-passes slot)

@@ -1,5 +1,5 @@
 -- What every reached node keeps is kept by every call.
-use Prim.Native.Nat.{ℕ, _+_, _-_, _≤_}
+use Prim.Native.Nat.{ℕ, _+_, _-_}
 use mathlib.Core.Path.{_≡_, refl, _∙_}
 use mathlib.Core.Bool.{true, and-eq-true-iff}
 use mathlib.Core.List.{List, [], _∷_}
@@ -18,7 +18,8 @@ use Rattle.node.specs.SetUp.{setUp, slotFor}
 use Rattle.node.specs.Hear.{hear, heardBy}
 use Rattle.node.specs.Tick.{tick, tickSlot}
 use Rattle.node.specs.Request.{request, requested}
-use Rattle.node.specs.NextFrame.{nextFrame, give, givenOut, lowest, pendingIds}
+use Rattle.node.specs.NextFrame.{nextFrame, give, givenOut, pendingIds}
+use Rattle.node.specs.Selection.{lowestOrAbove}
 use Rattle.node.specs.Calls.{Call, outcome, afterFrom, after}
 use Rattle.node.specs.Reachable.{KeptSlot, Kept}
 use Rattle.node.proofs.Cases.{Case, by-case}
@@ -90,7 +91,7 @@ module _ (n : Node) (k : Kept n) where
   unfolding give
   next-frame-keeps output =
       kept-unless (next-cases output n .case) λ h.
-      let id : BusId = record { 0 = lowest (pendingIds (n .slots)) } in
+      let id : BusId = record { 0 = lowestOrAbove (pendingIds (n .slots)) } in
       on-slot-keeps (streamOf id) (givenOut (codeOf id)) (given-out-keeps (codeOf id))
       (λ here kx. kept-given-out (n .counter) (slotOf (streamOf id) n) kx (codeOf id) (and-eq-true-iff _ _ .0 here .0))
 

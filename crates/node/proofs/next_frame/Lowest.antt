@@ -1,5 +1,5 @@
 -- The lowest of all pending bus identifiers: it is one of them, none is lower, and where none is pending there is none.
-use mathlib.Core.Path.{_≡_, refl}
+use mathlib.Core.Path.{_≡_, refl, sym, ap}
 use mathlib.Core.Bool.{Bool, true, false, cond, not, _&&_, _||_}
 use mathlib.Core.List.{List, [], _∷_, _++_}
 use mathlib.Core.List.{List·Memᴰ, List·Memᴰ·head, List·Memᴰ·tail, List·Memᴰ·not-nil, List·Memᴰ·cases-cons}
@@ -9,49 +9,51 @@ use Prim.Native.Nat.{ℕ, _+_, _*_, _/_, _≤_, _<_, min}
 use native.Mathlib.Omega.{arith}
 use lib.Dec.{leb, ltb}
 use lib.ListN.{length}
-use borrow.Author.Tests.{leb-true, leb-false, le-leb, lt-leb, le-ltb, ltb-true, ltb-false, eq-eqb}
+use borrow.Author.Tests.{leb-true, leb-false, le-leb, lt-leb, le-ltb, eq-eqb}
 use Rattle.wire.specs.Identifiers.{maxStream, maxBusId, maxCode, streamOf, join}
 use Rattle.wire.specs.Settings.{isPlain}
-use Rattle.wire.specs.declared.reply.Reply.the-variants.{Done, ShortOutput, Nothing}
+use Rattle.wire.specs.declared.reply.Reply.the-variants.{ShortOutput, Nothing}
 use Rattle.node.specs.declared.slots.Slot.{Slot}
 use Rattle.node.specs.declared.Node.{Node}
 use Rattle.node.specs.Slots.{isOf, some}
-use Rattle.node.specs.Nodes.{Outcome, refused}
-use Rattle.node.specs.NextFrame.{nextRoom, payloadCode, one, pendingCodes, idsFrom, pendingIn, pendingIds, lowest, give, nextFrame}
+use Rattle.node.specs.Nodes.{Refusals, unlessRefused}
+use Rattle.node.specs.NextFrame.{nextRoom, payloadCode, one, pendingCodes, idsFrom, pendingIn, pendingIds, give, nextRefusals, nextFrame, isNone, lowest}
+use Rattle.node.specs.Selection.{lowestOrAbove}
+use Rattle.node.proofs.Choices.{contrary}
 
 -- ── of any identifiers ──
-pub lowest-at-most : (l : List ℕ) → lowest l ≤ maxBusId + 1
-unfolding lowest
+pub lowest-at-most : (l : List ℕ) → lowestOrAbove l ≤ maxBusId + 1
+unfolding lowestOrAbove
 lowest-at-most [] = omega arith
 lowest-at-most (i ∷ is) = let h = lowest-at-most is in omega arith
 
-pub lowest-append : (a b : List ℕ) → lowest (a ++ b) ≡ min (lowest a) (lowest b)
-unfolding lowest
+pub lowest-append : (a b : List ℕ) → lowestOrAbove (a ++ b) ≡ min (lowestOrAbove a) (lowestOrAbove b)
+unfolding lowestOrAbove
 lowest-append [] b = let h = lowest-at-most b in omega arith
 lowest-append (i ∷ a) b = let h = lowest-append a b in omega arith
 
-pub none-lower : (l : List ℕ) {i : ℕ} → List·Memᴰ i l → lowest l ≤ i
-unfolding lowest
+pub none-lower : (l : List ℕ) {i : ℕ} → List·Memᴰ i l → lowestOrAbove l ≤ i
+unfolding lowestOrAbove
 none-lower [] m = absurd (List·Memᴰ·not-nil m)
 none-lower (j ∷ l) {i} m = go (none-lower l) (List·Memᴰ·cases-cons m)
   where
-    go : (List·Memᴰ i l → lowest l ≤ i) → (i ≡ j) ⊎ List·Memᴰ i l → min j (lowest l) ≤ i
+    go : (List·Memᴰ i l → lowestOrAbove l ≤ i) → (i ≡ j) ⊎ List·Memᴰ i l → min j (lowestOrAbove l) ≤ i
     go rest (inl e) = omega arith
     go rest (inr below) = omega (arith, rest below)
 
-pub lowest-is-one : (l : List ℕ) → lowest l ≤ maxBusId → List·Memᴰ (lowest l) l
-unfolding lowest
+pub lowest-is-one : (l : List ℕ) → lowestOrAbove l ≤ maxBusId → List·Memᴰ (lowestOrAbove l) l
+unfolding lowestOrAbove
 lowest-is-one [] h = absurd (omega arith)
-lowest-is-one (i ∷ l) h = go (leb i (lowest l)) refl (lowest-is-one l)
+lowest-is-one (i ∷ l) h = go (leb i (lowestOrAbove l)) refl (lowest-is-one l)
   where
-    go : (t : Bool) → leb i (lowest l) ≡ t → (lowest l ≤ maxBusId → List·Memᴰ (lowest l) l) → List·Memᴰ (min i (lowest l)) (i ∷ l)
+    go : (t : Bool) → leb i (lowestOrAbove l) ≡ t → (lowestOrAbove l ≤ maxBusId → List·Memᴰ (lowestOrAbove l) l) → List·Memᴰ (min i (lowestOrAbove l)) (i ∷ l)
     go true e rest =
-        let at-most = leb-true i (lowest l) e in
-        let same : min i (lowest l) ≡ i = omega arith in
+        let at-most = leb-true i (lowestOrAbove l) e in
+        let same : min i (lowestOrAbove l) ≡ i = omega arith in
         List·Memᴰ·head same
     go false e rest =
-        let above = leb-false i (lowest l) e in
-        let same : min i (lowest l) ≡ lowest l = omega arith in
+        let above = leb-false i (lowestOrAbove l) e in
+        let same : min i (lowestOrAbove l) ≡ lowestOrAbove l = omega arith in
         List·Memᴰ·tail (Memᴰ·cast same (rest (omega arith)))
 
 -- ── of a slot's codes ──
@@ -83,8 +85,8 @@ firstCode plain payload confirmation abort =
     (cond (payload && not plain) 0 (cond confirmation 1 (cond abort 2 3)))
 
 by-flags : (plain payload confirmation abort : Bool)
-    → lowest (one payload (cond plain 3 0) ++ one confirmation 1 ++ one abort 2) ≡ firstCode plain payload confirmation abort
-unfolding lowest
+    → lowestOrAbove (one payload (cond plain 3 0) ++ one confirmation 1 ++ one abort 2) ≡ firstCode plain payload confirmation abort
+unfolding lowestOrAbove
 by-flags false false false false = refl
 by-flags false false false true = refl
 by-flags false false true false = refl
@@ -103,46 +105,46 @@ by-flags true true true false = refl
 by-flags true true true true = refl
 
 pub lowest-code : (x : Slot)
-    → lowest (pendingCodes x) ≡ firstCode (isPlain (x .settings)) (x .pending .payload) (x .pending .confirmation) (x .pending .abort)
+    → lowestOrAbove (pendingCodes x) ≡ firstCode (isPlain (x .settings)) (x .pending .payload) (x .pending .confirmation) (x .pending .abort)
 lowest-code x = by-flags (isPlain (x .settings)) (x .pending .payload) (x .pending .confirmation) (x .pending .abort)
 
-code-or-none : (x : Slot) → 3 < lowest (pendingCodes x) → lowest (pendingCodes x) ≡ maxBusId + 1
-code-or-none x h = go (leb (lowest (pendingCodes x)) maxBusId) refl
+code-or-none : (x : Slot) → 3 < lowestOrAbove (pendingCodes x) → lowestOrAbove (pendingCodes x) ≡ maxBusId + 1
+code-or-none x h = go (leb (lowestOrAbove (pendingCodes x)) maxBusId) refl
   where
-    go : (t : Bool) → leb (lowest (pendingCodes x)) maxBusId ≡ t → lowest (pendingCodes x) ≡ maxBusId + 1
+    go : (t : Bool) → leb (lowestOrAbove (pendingCodes x)) maxBusId ≡ t → lowestOrAbove (pendingCodes x) ≡ maxBusId + 1
     go true e =
-        let one-of-them = lowest-is-one (pendingCodes x) (leb-true (lowest (pendingCodes x)) maxBusId e) in
-        absurd (omega (arith, code-at-most-three x (lowest (pendingCodes x)) one-of-them))
-    go false e = omega (arith, lowest-at-most (pendingCodes x), leb-false (lowest (pendingCodes x)) maxBusId e)
+        let one-of-them = lowest-is-one (pendingCodes x) (leb-true (lowestOrAbove (pendingCodes x)) maxBusId e) in
+        absurd (omega (arith, code-at-most-three x (lowestOrAbove (pendingCodes x)) one-of-them))
+    go false e = omega (arith, lowest-at-most (pendingCodes x), leb-false (lowestOrAbove (pendingCodes x)) maxBusId e)
 
 -- ── of a slot's identifiers ──
-lowest-ids : (stream : ℕ) (codes : List ℕ) → lowest (idsFrom stream codes) ≡ min (stream * 4 + lowest codes) (maxBusId + 1)
-unfolding lowest
+lowest-ids : (stream : ℕ) (codes : List ℕ) → lowestOrAbove (idsFrom stream codes) ≡ min (stream * 4 + lowestOrAbove codes) (maxBusId + 1)
+unfolding lowestOrAbove
 lowest-ids stream [] = omega arith
 lowest-ids stream (code ∷ codes) = let h = lowest-ids stream codes in omega arith
 
 module _ (x : Slot) where
   -- by whether the slot is set up with a number that is a stream's
   lowest-by : Bool → ℕ
-  lowest-by stream = cond stream (min (x .stream .0 * 4 + lowest (pendingCodes x)) (maxBusId + 1)) (maxBusId + 1)
+  lowest-by stream = cond stream (min (x .stream .0 * 4 + lowestOrAbove (pendingCodes x)) (maxBusId + 1)) (maxBusId + 1)
 
-  in-slot : lowest (pendingIn x) ≡ lowest-by (x .used && leb (x .stream .0) maxStream)
-  unfolding pendingIn lowest lowest-by
+  in-slot : lowestOrAbove (pendingIn x) ≡ lowest-by (x .used && leb (x .stream .0) maxStream)
+  unfolding pendingIn lowestOrAbove lowest-by
   in-slot = go (x .used && leb (x .stream .0) maxStream)
     where
-      go : (t : Bool) → lowest (cond t (idsFrom (x .stream .0) (pendingCodes x)) []) ≡ lowest-by t
+      go : (t : Bool) → lowestOrAbove (cond t (idsFrom (x .stream .0) (pendingCodes x)) []) ≡ lowest-by t
       go true = lowest-ids (x .stream .0) (pendingCodes x)
       go false = refl
 
-  pub not-set-up : x .used ≡ false → maxBusId + 1 ≡ lowest (pendingIn x)
+  pub not-set-up : x .used ≡ false → maxBusId + 1 ≡ lowestOrAbove (pendingIn x)
   unfolding lowest-by
   not-set-up e = rw (in-slot, e)
 
-  pub no-stream : x .used ≡ true → maxStream < x .stream .0 → maxBusId + 1 ≡ lowest (pendingIn x)
+  pub no-stream : x .used ≡ true → maxStream < x .stream .0 → maxBusId + 1 ≡ lowestOrAbove (pendingIn x)
   unfolding lowest-by
   no-stream e h = rw (in-slot, e, lt-leb (x .stream .0) maxStream h)
 
-  pub no-code : 3 < lowest (pendingCodes x) → maxBusId + 1 ≡ lowest (pendingIn x)
+  pub no-code : 3 < lowestOrAbove (pendingCodes x) → maxBusId + 1 ≡ lowestOrAbove (pendingIn x)
   unfolding lowest-by
   no-code h = rw in-slot (go (x .used && leb (x .stream .0) maxStream))
     where
@@ -150,8 +152,8 @@ module _ (x : Slot) where
       go true = omega (arith, code-or-none x h)
       go false = refl
 
-  pub joined-code : (code : ℕ) → code ≡ lowest (pendingCodes x) → code ≤ maxCode → x .used ≡ true → x .stream .0 ≤ maxStream
-      → join (x .stream) code .id ≡ record { 0 = lowest (pendingIn x) }
+  pub joined-code : (code : ℕ) → code ≡ lowestOrAbove (pendingCodes x) → code ≤ maxCode → x .used ≡ true → x .stream .0 ≤ maxStream
+      → join (x .stream) code .id ≡ record { 0 = lowestOrAbove (pendingIn x) }
   unfolding lowest-by join
   joined-code code is-lowest small used stream =
       let in-range : min (x .stream .0 * 4 + code) (maxBusId + 1) ≡ x .stream .0 * 4 + code = omega arith in
@@ -208,53 +210,35 @@ pending-has-slot (x ∷ xs) {i} m =
     (λ (there : List·Memᴰ i (pendingIds xs)). or-true (isOf (streamOf (record { 0 = i })) x) _ (pending-has-slot xs there))
     (List·Memᴰ·append-cases (pendingIn x) m)
 
--- ── what next frame answers ──
-pub record LowestOf (ids : List ℕ) (i : ℕ) : Type 0 where
-  pub is-one : List·Memᴰ i ids
-  pub none-is-lower : (j : ℕ) → List·Memᴰ j ids → i ≤ j
+-- ── the definition, by the lowest or above ──
+abbrev pub refusalsByLowest : (output : List ℕ) → (low : ℕ) → Refusals
+refusalsByLowest output low =
+    (ShortOutput, ltb (length output) nextRoom)
+    ∷ (Nothing, ltb maxBusId low)
+    ∷ []
 
--- the answer, by its two tests
-abbrev answerBy : (short none : Bool) → Node → Outcome
-answerBy short none n =
-    cond short (refused n ShortOutput) (cond none (refused n Nothing) (give (record { 0 = lowest (pendingIds (n .slots)) }) n))
+none-same : (ids : List ℕ) → ((i : ℕ) → List·Memᴰ i ids → i ≤ maxBusId) → isNone ids ≡ ltb maxBusId (lowestOrAbove ids)
+unfolding lowestOrAbove
+none-same [] small = refl
+none-same (i ∷ ids) small = sym (le-ltb maxBusId (min i (lowestOrAbove ids)) (omega (arith, small i (List·Memᴰ·head refl))))
 
-given-by : (n : Node) (short none : Bool) → ltb maxBusId (lowest (pendingIds (n .slots))) ≡ none
-    → answerBy short none n .reply ≡ Done → LowestOf (pendingIds (n .slots)) (answerBy short none n .id .0)
-unfolding give
-given-by n true none e done = absurd (let z : _≡_ {A = ℕ} 0 1 = cc in omega arith)
-given-by n false true e done = absurd (let z : _≡_ {A = ℕ} 0 1 = cc in omega arith)
-given-by n false false e done =
-    record {
-      is-one = lowest-is-one (pendingIds (n .slots)) (ltb-false maxBusId (lowest (pendingIds (n .slots))) e);
-      none-is-lower = λ j m. none-lower (pendingIds (n .slots)) m;
-    }
+lowest-same : (ids : List ℕ) → ((i : ℕ) → List·Memᴰ i ids → i ≤ maxBusId) → isNone ids ≡ false → lowest ids ≡ lowestOrAbove ids
+unfolding lowest lowestOrAbove
+lowest-same [] small some = absurd (contrary refl some)
+lowest-same (i ∷ []) small some = omega (arith, small i (List·Memᴰ·head refl))
+lowest-same (i ∷ j ∷ is) small some = ap (min i) (lowest-same (j ∷ is) (λ k m. small k (List·Memᴰ·tail m)) refl)
 
-nothing-by : (n : Node) (short none : Bool) → ltb maxBusId (lowest (pendingIds (n .slots))) ≡ none
-    → answerBy short none n .reply ≡ Nothing → maxBusId < lowest (pendingIds (n .slots))
-unfolding give
-nothing-by n true none e nothing = absurd (let z : _≡_ {A = ℕ} 0 1 = cc in omega arith)
-nothing-by n false true e nothing = ltb-true maxBusId (lowest (pendingIds (n .slots))) e
-nothing-by n false false e nothing = absurd (let z : _≡_ {A = ℕ} 0 1 = cc in omega arith)
+pub next-by-lowest : (output : List ℕ) (n : Node)
+    → let low = lowestOrAbove (pendingIds (n .slots)) in
+    nextFrame output n ≡ unlessRefused n (refusalsByLowest output low) (give (record { 0 = low }) n)
+unfolding nextFrame
+next-by-lowest output n = go (isNone (pendingIds (n .slots))) refl
+  where
+    small : (i : ℕ) → List·Memᴰ i (pendingIds (n .slots)) → i ≤ maxBusId
+    small i m = pending-in-range (n .slots) m
 
-module _ (output : List ℕ) (n : Node) where
-  -- the identifier that is given out is pending, and none that is pending is lower
-  pub given-id-is-lowest : nextFrame output n .reply ≡ Done → LowestOf (pendingIds (n .slots)) (nextFrame output n .id .0)
-  unfolding nextFrame
-  given-id-is-lowest done = given-by n (ltb (length output) nextRoom) (ltb maxBusId (lowest (pendingIds (n .slots)))) refl done
-
-  -- where the output is long enough, Nothing is answered exactly when no frame is pending
-  pub nothing-answered : nextRoom ≤ length output → pendingIds (n .slots) ≡ [] → nextFrame output n .reply ≡ Nothing
-  unfolding nextFrame lowest
-  nothing-answered room none = rw (le-ltb (length output) nextRoom room, none)
-
-  pub nothing-pending : nextFrame output n .reply ≡ Nothing → pendingIds (n .slots) ≡ []
-  unfolding nextFrame
-  nothing-pending nothing =
-      go (pendingIds (n .slots)) refl
-      (nothing-by n (ltb (length output) nextRoom) (ltb maxBusId (lowest (pendingIds (n .slots)))) refl nothing)
-    where
-      go : (ids : List ℕ) → pendingIds (n .slots) ≡ ids → maxBusId < lowest (pendingIds (n .slots)) → ids ≡ []
-      go [] e above = refl
-      go (i ∷ ids) e above =
-          let m : List·Memᴰ i (pendingIds (n .slots)) = rw e (List·Memᴰ·head refl) in
-          absurd (omega (arith, none-lower (pendingIds (n .slots)) m, pending-in-range (n .slots) m))
+    go : (t : Bool) → isNone (pendingIds (n .slots)) ≡ t
+        → unlessRefused n (nextRefusals output (pendingIds (n .slots))) (give (record { 0 = lowest (pendingIds (n .slots)) }) n)
+        ≡ unlessRefused n (refusalsByLowest output (lowestOrAbove (pendingIds (n .slots)))) (give (record { 0 = lowestOrAbove (pendingIds (n .slots)) }) n)
+    go true e = rw (← (none-same (pendingIds (n .slots)) small), e)
+    go false e = rw (← (none-same (pendingIds (n .slots)) small), e, lowest-same (pendingIds (n .slots)) small e)

@@ -18,30 +18,31 @@ use Rattle.node.specs.declared.Given.{Given}
 use Rattle.node.specs.Slots.{isOf}
 use Rattle.node.specs.Nodes.{withSlots, Outcome, refused, given}
 use Rattle.node.specs.Request.{hasPending}
-use Rattle.node.specs.NextFrame.{nextRoom, pendingCodes, pendingIn, pendingIds, lowest, givenOut, payloadFor, give, nextRefusals, nextFrame}
+use Rattle.node.specs.NextFrame.{nextRoom, pendingCodes, pendingIn, pendingIds, givenOut, payloadFor, give, nextFrame}
+use Rattle.node.specs.Selection.{lowestOrAbove}
 use Rattle.node.specs.Calls.{Call}
 use Rattle.node.proofs.Cases.{Refuses, here, later}
 use Rattle.node.proofs.next_frame.Cases.{next-cases}
 use Rattle.node.proofs.rollover.Promises.{PromisedWritten, promised-written}
 use Rattle.node.proofs.slots.Finding.{indexOf, step-back, slot-found, slot-stored, some-found}
-use Rattle.node.proofs.next_frame.Lowest.{lowest-at-most, lowest-append, lowest-is-one, lowest-code, no-code, pending-has-slot}
+use Rattle.node.proofs.next_frame.Lowest.{lowest-at-most, lowest-append, lowest-is-one, lowest-code, no-code, pending-has-slot, refusalsByLowest}
 
 -- the loop that looks for the lowest, from the end of the table to its front
-pub lowest-past-the-end : (l : List Slot) (i : ℕ) → length l ≡ i → maxBusId + 1 ≡ lowest (pendingIds (drop i l))
-unfolding lowest pendingIds
+pub lowest-past-the-end : (l : List Slot) (i : ℕ) → length l ≡ i → maxBusId + 1 ≡ lowestOrAbove (pendingIds (drop i l))
+unfolding lowestOrAbove pendingIds
 lowest-past-the-end l i e = let past : length l ≤ i = omega arith in rw (drop-of-length-le l past)
 
 pub lowest-step : (l : List Slot) (i : ℕ) (d : Slot) → 0 < i → i ≤ length l
-    → lowest (pendingIds (drop (i - 1) l)) ≡ min (lowest (pendingIn (getD l (i - 1) d))) (lowest (pendingIds (drop i l)))
+    → lowestOrAbove (pendingIds (drop (i - 1) l)) ≡ min (lowestOrAbove (pendingIn (getD l (i - 1) d))) (lowestOrAbove (pendingIds (drop i l)))
 unfolding pendingIds
 lowest-step l i d some-left inside = rw (step-back l i d some-left inside) (lowest-append (pendingIn (getD l (i - 1) d)) (pendingIds (drop i l)))
 
 -- a slot with nothing pending is passed over
 pub lowest-passed : (l : List Slot) (i : ℕ) (d : Slot) → 0 < i → i ≤ length l → hasPending (getD l (i - 1) d .pending) ≡ false
-    → lowest (pendingIds (drop i l)) ≡ lowest (pendingIds (drop (i - 1) l))
+    → lowestOrAbove (pendingIds (drop i l)) ≡ lowestOrAbove (pendingIds (drop (i - 1) l))
 lowest-passed l i d some-left inside nothing =
     let x = getD l (i - 1) d in
-    let code : lowest (pendingCodes x) ≡ maxBusId + 1 = lowest-code x ∙ rw nothing in
+    let code : lowestOrAbove (pendingCodes x) ≡ maxBusId + 1 = lowest-code x ∙ rw nothing in
     omega (arith, lowest-step l i d some-left inside, no-code x (omega arith), lowest-at-most (pendingIds (drop i l)))
 
 module _ (output : List ℕ) (n : Node) where
@@ -51,13 +52,13 @@ module _ (output : List ℕ) (n : Node) where
   answers : (o : Outcome) → o ≡ nextFrame output n → Answers (given o) (over (o .bytes) output)
   answers o e = promised-written (Call.nextFrame output) n given output o e
 
-  refused-at : (low : ℕ) → low ≡ lowest (pendingIds (n .slots)) → {r : Reply} → Refuses (nextRefusals output low) r → Answers (given (refused n r)) output
+  refused-at : (low : ℕ) → low ≡ lowestOrAbove (pendingIds (n .slots)) → {r : Reply} → Refuses (refusalsByLowest output low) r → Answers (given (refused n r)) output
   refused-at low is-lowest {r} why = answers (refused n r) (sym (next-cases output n .refused-if r (rw (← is-lowest) why)))
 
   pub short-output : length output < nextRoom → Answers (given (refused n ShortOutput)) output
   short-output h = refused-at _ refl (here (lt-ltb _ _ h))
 
-  module _ (room : nextRoom ≤ length output) (low : ℕ) (is-lowest : low ≡ lowest (pendingIds (n .slots))) where
+  module _ (room : nextRoom ≤ length output) (low : ℕ) (is-lowest : low ≡ lowestOrAbove (pendingIds (n .slots))) where
     abbrev id : BusId
     id = record { 0 = low }
 

@@ -103,8 +103,8 @@ give-rolls id u =
 next-frame-rolls : (output : List ℕ) (u : Node) → rollOutcome (nextFrame output u) ≡ nextFrame output (roll u)
 unfolding nextFrame
 next-frame-rolls output u =
-    let id = lowest (pendingIds (u .slots)) in
-    rw (pending-rolls (u .slots)) (unless-refused-rolls u (nextRefusals output id) _ _ (give-rolls (record { 0 = id }) u))
+    let pending = pendingIds (u .slots) in
+    rw (pending-rolls (u .slots)) (unless-refused-rolls u (nextRefusals output pending) _ _ (give-rolls (record { 0 = lowest pending }) u))
 
 -- ── a tick ──
 next-rolls : (now : ℕ) → unbounded .next now % period ≡ rolled .next (now % period)

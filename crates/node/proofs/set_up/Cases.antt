@@ -1,5 +1,5 @@
 -- Setting up a stream, by cases: refused, or the stream has a slot, with what the settings and the table then have.
-use mathlib.Core.Path.{_≡_, ap}
+use mathlib.Core.Path.{_≡_, refl, ap}
 use mathlib.Core.Bool.{true, false, not}
 use mathlib.Core.List.{[]}
 use borrow.Author.Tests.{not-false}
@@ -29,4 +29,4 @@ module _ (s : Stream) (settings : Settings) (n : Node) where
 
   pub set-up-cases : Cases n (setUpRefusals s settings n) SetUpFacts set (setUp s settings n)
   unfolding setUp
-  set-up-cases = cases n (setUpRefusals s settings n) set set-up-facts set-up-passes
+  set-up-cases = cases n (setUpRefusals s settings n) set refl set-up-facts set-up-passes

@@ -3,6 +3,7 @@
 use mathlib.Core.Path.{_≡_, refl, sym, ap, _∙_}
 use mathlib.Core.Bool.{Bool, true, false, cond, false≢true}
 use mathlib.Core.List.{List, [], _∷_, map}
+use mathlib.Core.Logic.{_⊎_, ⊎-elim}
 use Prim.Native.Nat.{ℕ, suc, _+_, _-_, _≤_, _<_}
 use native.Mathlib.Omega.{arith}
 use native.Mathlib.Numerals.{add-one}
@@ -13,13 +14,24 @@ use borrow.Author.Tests.{leb-true, leb-false}
 use Rattle.wire.specs.declared.ids.Stream.{Stream}
 use Rattle.node.specs.declared.slots.Slot.{Slot}
 use Rattle.node.specs.declared.Node.{Node}
-use Rattle.node.specs.Slots.{empty, isOf, first, onFirst, some}
+use Rattle.node.specs.Slots.{nonePending, empty, isOf, first, onFirst, some}
 use Rattle.node.specs.Nodes.{slotOf, withSlots, onSlot}
 
 -- where the first slot stands of which the test is true; where there is none, the table's length
 unfoldable pub indexOf : (Slot → Bool) → List Slot → ℕ
 indexOf test [] = 0
 indexOf test (x ∷ xs) = cond (test x) 0 (suc (indexOf test xs))
+
+-- what the code reads past the end of the table
+abbrev pub noSlot : Slot
+noSlot =
+    record {
+      stream = record { 0 = 0 };
+      settings = record { rd = 0; dc = 0; ra = 0; dd = 0; role = 0; class = 0 };
+      message = record { stamp = 0; len = 0; held = false; confirmed = false; bytes = [] };
+      pending = nonePending;
+      used = false;
+    }
 
 -- a list is as long as its image: what `search` lacks at an array of structs in a struct
 pub length-of-mapped : (X Y : Type 0) (f : X → Y) (l : List X) (n : ℕ) → length (map f l) ≡ n → length l ≡ n
@@ -102,6 +114,12 @@ module _ (test : Slot → Bool) where
     pub not-here : test (getD l i d) ≡ false → NoneBefore l (i + 1)
     unfolding indexOf
     not-here e = rw add-one (omega (arith, rw (drop-cons l i d inside, e) at none))
+
+  -- it ends past the table, or at a slot of which the test is true
+  pub search-ends : (l : List Slot) (i : ℕ) (d : Slot) {A B : Type 0} → NoneBefore l i → (A → length l ≤ i)
+      → (B → (i < length l) × (test (getD l i d) ≡ true)) → A ⊎ B → i ≡ indexOf test l
+  search-ends l i d none past here =
+      ⊎-elim (λ a. found-nowhere l i (past a) none) (λ b. let h = here b in found-here l i d (h .0) none (h .1))
 
 -- ── the slot of a stream, found in the node's table ──
 module _ (n : Node) (s : Stream) (i : ℕ) (at-index : i ≡ indexOf (isOf s) (n .slots)) where

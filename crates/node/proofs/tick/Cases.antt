@@ -1,4 +1,5 @@
 -- A tick, by cases: refused, or the node has ticked, with an output that was long enough.
+use mathlib.Core.Path.{refl}
 use mathlib.Core.List.{List}
 use Prim.Native.Nat.{ℕ, _≤_}
 use borrow.Author.Tests.{ltb-false, le-ltb}
@@ -25,4 +26,4 @@ module _ (output : List ℕ) where
 
     pub tick-cases : Cases n (tickRefusals output) TickFacts after-tick (tick clock output n)
     unfolding tick
-    tick-cases = cases n (tickRefusals output) after-tick tick-facts tick-passes
+    tick-cases = cases n (tickRefusals output) after-tick refl tick-facts tick-passes

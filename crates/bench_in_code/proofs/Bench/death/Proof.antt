@@ -16,32 +16,11 @@ eight c = search (needs, length-of-mapped)
 returns : tie.Need-returns
 returns c = let s = c .before in past-stays (s .args .t1) (eight s) _ (omega arith) dead
 
-mul-m : tie.Need-mul-m
-mul-m c = search needs
-
-element-copy-out-m : tie.Need-element-copy-out-m
-element-copy-out-m c = search needs
-
-dead-requires : tie.Need-dead-requires
-dead-requires c κs = search needs
-
-mul-t6 : tie.Need-mul-t6
-mul-t6 c = search needs
-
-element-set-from-self : tie.Need-element-set-from-self
-element-set-from-self c = search needs
-
 returns-2 : tie.Need-returns-2
 returns-2 c = let s = c .before .before .before in stored (s .args .t1) (eight s) _ (omega arith) _ dead _ (c .dead .ensures)
 
 pub death-spec : {M : Type 1} → statement M
 death-spec =
     tie.close
-    (tie.spec
-    returns
-    mul-m
-    element-copy-out-m
-    dead-requires
-    mul-t6
-    element-set-from-self
+    (tie.spec returns (λ c. search needs) (λ c. search needs) (λ c κs. search needs) (λ c. search needs) (λ c. search needs)
     returns-2)

@@ -16,26 +16,11 @@ eight c = search (needs, length-of-mapped)
 returns : tie.Need-returns
 returns c = let s = c .before in dead-gives-nothing (s .args .t1) (eight s) _ _ (sym (past-is-dead (s .args .t1) (eight s) _ (omega arith)))
 
-mul-m : tie.Need-mul-m
-mul-m c = search needs
-
-element-copy-out-m : tie.Need-element-copy-out-m
-element-copy-out-m c = search needs
-
 returns-2 : tie.Need-returns-2
 returns-2 c =
     let s = c .before .before .before .before in
     let dead = sym (read-live (s .args .t1) (eight s) _ (omega arith) _) ∙ not-true _ (c .if2 .taken) in
     dead-gives-nothing (s .args .t1) (eight s) _ _ dead
-
-slice-aggregate-next-frame : tie.Need-slice-aggregate-next-frame
-slice-aggregate-next-frame c = search needs
-
-next-frame-requires : tie.Need-next-frame-requires
-next-frame-requires c κs = search needs
-
-number-requires : tie.Need-number-requires
-number-requires c κs = search needs
 
 returns-3 : tie.Need-returns-3
 returns-3 c =
@@ -55,18 +40,6 @@ returns-4 c =
     let done = eq-eqb _ 0 (sym (n .number .ensures) ∙ c .before .before .if3 .left) in
     no-room (s .args .t1) (eight s) _ _ live (omega arith) _ _ (a .0) done (omega arith)
 
-with-node-requires : tie.Need-with-node-requires
-with-node-requires c κs = search needs
-
-mul-t18 : tie.Need-mul-t18
-mul-t18 c = search needs
-
-element-set-from-self : tie.Need-element-set-from-self
-element-set-from-self c = search needs
-
-with-requires : tie.Need-with-requires
-with-requires c κs = search needs
-
 returns-5 : tie.Need-returns-5
 returns-5 c =
     let n = c .before .before .before .before .before .before in
@@ -80,18 +53,6 @@ returns-5 c =
 pub give-spec : {M : Type 1} → statement M
 give-spec =
     tie.close
-    (tie.spec
-    returns
-    mul-m
-    element-copy-out-m
-    returns-2
-    slice-aggregate-next-frame
-    next-frame-requires
-    number-requires
-    returns-3
-    returns-4
-    with-node-requires
-    mul-t18
-    element-set-from-self
-    with-requires
-    returns-5)
+    (tie.spec returns (λ c. search needs) (λ c. search needs) returns-2 (λ c. search needs) (λ c κs. search needs)
+    (λ c κs. search needs) returns-3 returns-4 (λ c κs. search needs) (λ c. search needs) (λ c. search needs)
+    (λ c κs. search needs) returns-5)

@@ -15,14 +15,8 @@ eight c = search (needs, length-of-mapped)
 returns : tie.Need-returns
 returns c = let s = c .before in past-is-dead (s .args .t1) (eight s) _ (omega arith)
 
-mul-m : tie.Need-mul-m
-mul-m c = search needs
-
-element-copy-out-m : tie.Need-element-copy-out-m
-element-copy-out-m c = search needs
-
 returns-2 : tie.Need-returns-2
 returns-2 c = let s = c .before .before in read-live (s .args .t1) (eight s) _ (omega arith) _
 
 pub is-live-spec : {M : Type 1} → statement M
-is-live-spec = tie.close (tie.spec returns mul-m element-copy-out-m returns-2)
+is-live-spec = tie.close (tie.spec returns (λ c. search needs) (λ c. search needs) returns-2)

@@ -3,30 +3,6 @@ use borrow.Author.Needs.{needs}
 use Rattle.bench_in_code.proofs.Bench.of.Statement.{statement}
 use Rattle.bench_in_code.proofs.Bench.of.Tie as tie
 
-at-start-requires : tie.Need-at-start-requires
-at-start-requires c κs = search needs
-
-at-start-requires-2 : tie.Need-at-start-requires-2
-at-start-requires-2 c κs = search needs
-
-at-start-requires-3 : tie.Need-at-start-requires-3
-at-start-requires-3 c κs = search needs
-
-at-start-requires-4 : tie.Need-at-start-requires-4
-at-start-requires-4 c κs = search needs
-
-at-start-requires-5 : tie.Need-at-start-requires-5
-at-start-requires-5 c κs = search needs
-
-at-start-requires-6 : tie.Need-at-start-requires-6
-at-start-requires-6 c κs = search needs
-
-at-start-requires-7 : tie.Need-at-start-requires-7
-at-start-requires-7 c κs = search needs
-
-at-start-requires-8 : tie.Need-at-start-requires-8
-at-start-requires-8 c κs = search needs
-
 returns : tie.Need-returns
 returns c =
     rw (
@@ -43,13 +19,5 @@ returns c =
 pub of-spec : {M : Type 1} → statement M
 of-spec =
     tie.close
-    (tie.spec
-    at-start-requires
-    at-start-requires-2
-    at-start-requires-3
-    at-start-requires-4
-    at-start-requires-5
-    at-start-requires-6
-    at-start-requires-7
-    at-start-requires-8
-    returns)
+    (tie.spec (λ c κs. search needs) (λ c κs. search needs) (λ c κs. search needs) (λ c κs. search needs) (λ c κs. search needs)
+    (λ c κs. search needs) (λ c κs. search needs) (λ c κs. search needs) returns)

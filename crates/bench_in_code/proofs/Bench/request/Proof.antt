@@ -18,28 +18,10 @@ eight c = search (needs, length-of-mapped)
 returns : tie.Need-returns
 returns c = let s = c .before .before in nobody-answers _ (sym (past-is-dead (s .args .t1) (eight s) _ (omega arith))) _ _ _
 
-mul-m : tie.Need-mul-m
-mul-m c = search needs
-
-element-copy-out-m : tie.Need-element-copy-out-m
-element-copy-out-m c = search needs
-
 returns-2 : tie.Need-returns-2
 returns-2 c =
     let s = c .before .before .before .before .before in
     nobody-answers _ (sym (read-live (s .args .t1) (eight s) _ (omega arith) _) ∙ not-true _ (c .if2 .taken)) _ _ _
-
-request-requires : tie.Need-request-requires
-request-requires c κs = search needs
-
-with-node-requires : tie.Need-with-node-requires
-with-node-requires c κs = search needs
-
-mul-t13 : tie.Need-mul-t13
-mul-t13 c = search needs
-
-element-set-from-self : tie.Need-element-set-from-self
-element-set-from-self c = search needs
 
 returns-3 : tie.Need-returns-3
 returns-3 c =
@@ -51,13 +33,5 @@ returns-3 c =
 pub request-spec : {M : Type 1} → statement M
 request-spec =
     tie.close
-    (tie.spec
-    returns
-    mul-m
-    element-copy-out-m
-    returns-2
-    request-requires
-    with-node-requires
-    mul-t13
-    element-set-from-self
-    returns-3)
+    (tie.spec returns (λ c. search needs) (λ c. search needs) returns-2 (λ c κs. search needs) (λ c κs. search needs)
+    (λ c. search needs) (λ c. search needs) returns-3)

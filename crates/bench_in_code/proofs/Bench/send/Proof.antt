@@ -19,44 +19,11 @@ abbrev μ-loop : tie.MeasureT-loop
 eight : (c : tie.Start Inv-loop μ-loop) → length (c .args .t1 .modules) ≡ 8
 eight c = search (needs, length-of-mapped)
 
-is-live-requires : tie.Need-is-live-requires Inv-loop μ-loop
-is-live-requires c κs = search needs
-
 returns : tie.Need-returns Inv-loop μ-loop
 returns c = let s = c .before .before in none-heard _ (s .args .frame) _ (sym (c .before .is-live .ensures) ∙ not-true _ (c .if1 .taken))
 
 loop-holds : tie.Need-loop-holds Inv-loop μ-loop
 loop-holds c = none-turned _ _ (eight (c .before .before))
-
-sub-i : tie.Need-sub-i Inv-loop μ-loop
-sub-i c = search needs
-
-mul-m : tie.Need-mul-m Inv-loop μ-loop
-mul-m c = search needs
-
-element-copy-out-m : tie.Need-element-copy-out-m Inv-loop μ-loop
-element-copy-out-m c = search needs
-
-array-read-hear : tie.Need-array-read-hear Inv-loop μ-loop
-array-read-hear c = search needs
-
-hear-requires : tie.Need-hear-requires Inv-loop μ-loop
-hear-requires c κs = search needs
-
-mul-after : tie.Need-mul-after Inv-loop μ-loop
-mul-after c = search needs
-
-element-set-from-after : tie.Need-element-set-from-after Inv-loop μ-loop
-element-set-from-after c = search needs
-
-mul-said : tie.Need-mul-said Inv-loop μ-loop
-mul-said c = search needs
-
-array-set-from-said : tie.Need-array-set-from-said Inv-loop μ-loop
-array-set-from-said c = search needs
-
-loop-less : tie.Need-loop-less Inv-loop μ-loop
-loop-less c = search needs
 
 loop-again : tie.Need-loop-again Inv-loop μ-loop
 loop-again c = one-turned _ _ (c .before .before .before .before .before .before .loop .inv) _ (omega arith) _ _ (c .before .before .hear .ensures)
@@ -69,21 +36,6 @@ returns-2 c =
 pub send-spec : {M : Type 1} → statement M
 send-spec =
     tie.close
-    (tie.spec
-    Inv-loop
-    μ-loop
-    is-live-requires
-    returns
-    loop-holds
-    sub-i
-    mul-m
-    element-copy-out-m
-    array-read-hear
-    hear-requires
-    mul-after
-    element-set-from-after
-    mul-said
-    array-set-from-said
-    loop-less
-    loop-again
-    returns-2)
+    (tie.spec Inv-loop μ-loop (λ c κs. search needs) returns loop-holds (λ c. search needs) (λ c. search needs)
+    (λ c. search needs) (λ c. search needs) (λ c κs. search needs) (λ c. search needs) (λ c. search needs) (λ c. search needs)
+    (λ c. search needs) (λ c. search needs) loop-again returns-2)

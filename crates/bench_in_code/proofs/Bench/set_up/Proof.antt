@@ -17,24 +17,6 @@ eight c = search (needs, length-of-mapped)
 returns : tie.Need-returns
 returns c = let s = c .before in nobody-answers _ (le-ltb (s .args .who) 8 (omega arith)) _ _ _
 
-mul-m : tie.Need-mul-m
-mul-m c = search needs
-
-element-copy-out-m : tie.Need-element-copy-out-m
-element-copy-out-m c = search needs
-
-set-up-requires : tie.Need-set-up-requires
-set-up-requires c κs = search needs
-
-with-node-requires : tie.Need-with-node-requires
-with-node-requires c κs = search needs
-
-mul-t13 : tie.Need-mul-t13
-mul-t13 c = search needs
-
-element-set-from-self : tie.Need-element-set-from-self
-element-set-from-self c = search needs
-
 returns-2 : tie.Need-returns-2
 returns-2 c =
     let s = c .before .before .before .before .before in
@@ -45,12 +27,5 @@ returns-2 c =
 pub set-up-spec : {M : Type 1} → statement M
 set-up-spec =
     tie.close
-    (tie.spec
-    returns
-    mul-m
-    element-copy-out-m
-    set-up-requires
-    with-node-requires
-    mul-t13
-    element-set-from-self
-    returns-2)
+    (tie.spec returns (λ c. search needs) (λ c. search needs) (λ c κs. search needs) (λ c κs. search needs) (λ c. search needs)
+    (λ c. search needs) returns-2)

@@ -22,33 +22,6 @@ eight c = search (needs, length-of-mapped)
 loop-holds : tie.Need-loop-holds Inv-loop μ-loop
 loop-holds c = none-turned _ _ (eight c)
 
-sub-i : tie.Need-sub-i Inv-loop μ-loop
-sub-i c = search needs
-
-mul-m : tie.Need-mul-m Inv-loop μ-loop
-mul-m c = search needs
-
-element-copy-out-m : tie.Need-element-copy-out-m Inv-loop μ-loop
-element-copy-out-m c = search needs
-
-tick-requires : tie.Need-tick-requires Inv-loop μ-loop
-tick-requires c κs = search needs
-
-mul-after : tie.Need-mul-after Inv-loop μ-loop
-mul-after c = search needs
-
-element-set-from-after : tie.Need-element-set-from-after Inv-loop μ-loop
-element-set-from-after c = search needs
-
-mul-said : tie.Need-mul-said Inv-loop μ-loop
-mul-said c = search needs
-
-array-set-from-said : tie.Need-array-set-from-said Inv-loop μ-loop
-array-set-from-said c = search needs
-
-loop-less : tie.Need-loop-less Inv-loop μ-loop
-loop-less c = search needs
-
 loop-again : tie.Need-loop-again Inv-loop μ-loop
 loop-again c = one-turned _ _ (c .before .before .before .before .before .loop .inv) _ (omega arith) _ _ (c .before .before .tick .ensures)
 
@@ -58,18 +31,5 @@ returns c = all-ticked _ _ (omega arith) (c .before .loop .inv)
 pub tick-spec : {M : Type 1} → statement M
 tick-spec =
     tie.close
-    (tie.spec
-    Inv-loop
-    μ-loop
-    loop-holds
-    sub-i
-    mul-m
-    element-copy-out-m
-    tick-requires
-    mul-after
-    element-set-from-after
-    mul-said
-    array-set-from-said
-    loop-less
-    loop-again
-    returns)
+    (tie.spec Inv-loop μ-loop loop-holds (λ c. search needs) (λ c. search needs) (λ c. search needs) (λ c κs. search needs)
+    (λ c. search needs) (λ c. search needs) (λ c. search needs) (λ c. search needs) (λ c. search needs) loop-again returns)

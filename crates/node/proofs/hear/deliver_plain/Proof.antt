@@ -22,18 +22,6 @@ payload-of-padded payload h = rw (padded-whole payload h) (take-append-seam payl
 returns : tie.Need-returns
 returns c = let other = ne-eqb _ _ (c .if1 .taken) in (rw other, rw other)
 
-pad-requires : tie.Need-pad-requires
-pad-requires c κs = search needs
-
-cast-write-record : tie.Need-cast-write-record
-cast-write-record c = search needs
-
-write-record-requires : tie.Need-write-record-requires
-write-record-requires c κs = search needs
-
-same-length : tie.Need-same-length
-same-length c = search needs
-
 returns-2 : tie.Need-returns-2
 returns-2 c =
     let w = c .before .before in
@@ -48,4 +36,4 @@ returns-2 c =
 pub deliver-plain-spec : {M : Type 1} → statement M
 deliver-plain-spec =
     tie.close
-    (tie.spec returns pad-requires cast-write-record write-record-requires same-length returns-2)
+    (tie.spec returns (λ c κs. search needs) (λ c. search needs) (λ c κs. search needs) (λ c. search needs) returns-2)

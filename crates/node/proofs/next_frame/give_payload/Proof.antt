@@ -8,12 +8,6 @@ returns : tie.Need-returns
 unfolding payloadFor
 returns c = (rw (c .if1 .taken), rw (c .if1 .taken))
 
-put-payload-requires : tie.Need-put-payload-requires
-put-payload-requires c κs = search needs
-
-same-length : tie.Need-same-length
-same-length c = search needs
-
 returns-2 : tie.Need-returns-2
 unfolding payloadFor
 returns-2 c =
@@ -22,4 +16,4 @@ returns-2 c =
     (rw e (put .0), rw e (put .1))
 
 pub give-payload-spec : {M : Type 1} → statement M
-give-payload-spec = tie.close (tie.spec returns put-payload-requires same-length returns-2)
+give-payload-spec = tie.close (tie.spec returns (λ c κs. search needs) (λ c. search needs) returns-2)

@@ -23,9 +23,6 @@ eight-bytes c = search needs
 short : (c : tie.Start Inv-loop μ-loop) → length (payloadOf (c .args .m)) ≤ 8
 short c = omega (arith, payload-length (c .args .m) (eight-bytes c))
 
-payload-length-requires : tie.Need-payload-length-requires Inv-loop μ-loop
-payload-length-requires c κs = search needs
-
 loop-holds : tie.Need-loop-holds Inv-loop μ-loop
 loop-holds c = (omega arith, refl, refl)
 
@@ -34,12 +31,6 @@ array-read-out c = omega (arith, short (c .before .before .before .before .befor
 
 slice-write-out : tie.Need-slice-write-out Inv-loop μ-loop
 slice-write-out c = omega (arith, short (c .before .before .before .before .before))
-
-add-i : tie.Need-add-i Inv-loop μ-loop
-add-i c = search needs
-
-loop-less : tie.Need-loop-less Inv-loop μ-loop
-loop-less c = search needs
 
 loop-again : tie.Need-loop-again Inv-loop μ-loop
 loop-again c =
@@ -52,9 +43,6 @@ loop-again c =
       length-set (l .loop .out) (l .loop .i) _ ∙ l .loop .inv .1,
       rw (l .loop .inv .2) turn,
     )
-
-same-length : tie.Need-same-length Inv-loop μ-loop
-same-length c = search needs
 
 returns : tie.Need-returns Inv-loop μ-loop
 returns c =
@@ -69,12 +57,12 @@ put-payload-spec =
     (tie.spec
     Inv-loop
     μ-loop
-    payload-length-requires
+    (λ c κs. search needs)
     loop-holds
     array-read-out
     slice-write-out
-    add-i
-    loop-less
+    (λ c. search needs)
+    (λ c. search needs)
     loop-again
-    same-length
+    (λ c. search needs)
     returns)

@@ -6,12 +6,6 @@ use borrow.Author.Needs.{needs}
 use Rattle.node.proofs.request.message_for.Statement.{statement}
 use Rattle.node.proofs.request.message_for.Tie as tie
 
-cast-len : tie.Need-cast-len
-cast-len c = search needs
-
-pad-requires : tie.Need-pad-requires
-pad-requires c κs = search needs
-
 returns : tie.Need-returns
 returns c =
     let start = c .before .before .before in
@@ -25,4 +19,4 @@ returns-2 c =
     rw (c .if1 .left, bytes)
 
 pub message-for-spec : {M : Type 1} → statement M
-message-for-spec = tie.close (tie.spec cast-len pad-requires returns returns-2)
+message-for-spec = tie.close (tie.spec (λ c. search needs) (λ c κs. search needs) returns returns-2)

@@ -15,26 +15,8 @@ Inv-loop keys from place₀ nearest₀ i₀ place nearest i = (i ≤ 32) × (len
 abbrev μ-loop : tie.MeasureT-loop
 μ-loop keys from place₀ nearest₀ i₀ place nearest i = i
 
-sub-nearest : tie.Need-sub-nearest Inv-loop μ-loop
-sub-nearest c = search needs
-
 loop-holds : tie.Need-loop-holds Inv-loop μ-loop
 loop-holds c = (search needs, c .pre .0, nearest-past-the-end _ (c .args .keys .now) 32 (c .pre .0))
-
-sub-i : tie.Need-sub-i Inv-loop μ-loop
-sub-i c = search needs
-
-mul-above : tie.Need-mul-above Inv-loop μ-loop
-mul-above c = search needs
-
-element-copy-out-above : tie.Need-element-copy-out-above Inv-loop μ-loop
-element-copy-out-above c = search needs
-
-above-requires : tie.Need-above-requires Inv-loop μ-loop
-above-requires c κs = search needs
-
-loop-less : tie.Need-loop-less Inv-loop μ-loop
-loop-less c = search needs
 
 loop-again : tie.Need-loop-again Inv-loop μ-loop
 loop-again c =
@@ -42,9 +24,6 @@ loop-again c =
     let l = a .loop in
     let distance = c .before .above .ensures in
     (omega arith, l .inv .1, nearest-from-here _ _ (l .i) _ _ _ _ (omega arith) (omega arith) (a .before .pre .1) distance (l .inv .2) (c .if1 .taken))
-
-loop-less-2 : tie.Need-loop-less-2 Inv-loop μ-loop
-loop-less-2 c = search needs
 
 loop-again-2 : tie.Need-loop-again-2 Inv-loop μ-loop
 loop-again-2 c =
@@ -62,14 +41,14 @@ least-spec =
     (tie.spec
     Inv-loop
     μ-loop
-    sub-nearest
+    (λ c. search needs)
     loop-holds
-    sub-i
-    mul-above
-    element-copy-out-above
-    above-requires
-    loop-less
+    (λ c. search needs)
+    (λ c. search needs)
+    (λ c. search needs)
+    (λ c κs. search needs)
+    (λ c. search needs)
     loop-again
-    loop-less-2
+    (λ c. search needs)
     loop-again-2
     returns)

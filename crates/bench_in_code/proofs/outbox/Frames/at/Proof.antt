@@ -15,14 +15,8 @@ full c = search (needs, length-of-mapped)
 returns : tie.Need-returns
 returns c = let s = c .before in sym (nth-past noFrame (s .args .n) (s .args .t1 .all) (omega (arith, full s)))
 
-mul-result : tie.Need-mul-result
-mul-result c = search needs
-
-element-copy-out-result : tie.Need-element-copy-out-result
-element-copy-out-result c = search needs
-
 returns-2 : tie.Need-returns-2
 returns-2 c = let s = c .before .before in nth-inside _ noFrame (s .args .n) (s .args .t1 .all) (omega (arith, full s))
 
 pub at-spec : {M : Type 1} → statement M
-at-spec = tie.close (tie.spec returns mul-result element-copy-out-result returns-2)
+at-spec = tie.close (tie.spec returns (λ c. search needs) (λ c. search needs) returns-2)

@@ -6,15 +6,6 @@ use borrow.Author.Needs.{needs}
 use Rattle.bench_in_code.proofs.outbox.Frames.with.Statement.{statement}
 use Rattle.bench_in_code.proofs.outbox.Frames.with.Tie as tie
 
-mul-frame : tie.Need-mul-frame
-mul-frame c = search needs
-
-element-set-from-frame : tie.Need-element-set-from-frame
-element-set-from-frame c = search needs
-
-add-self : tie.Need-add-self
-add-self c = search needs
-
 returns : tie.Need-returns
 returns c = let s = c .before in rw (lt-ltb (s .args .t1 .count) 1024 (omega arith), add-one)
 
@@ -22,4 +13,4 @@ returns-2 : tie.Need-returns-2
 returns-2 c = let s = c .before in rw (le-ltb (s .args .t1 .count) 1024 (omega arith))
 
 pub with-spec : {M : Type 1} → statement M
-with-spec = tie.close (tie.spec mul-frame element-set-from-frame add-self returns returns-2)
+with-spec = tie.close (tie.spec (λ c. search needs) (λ c. search needs) (λ c. search needs) returns returns-2)

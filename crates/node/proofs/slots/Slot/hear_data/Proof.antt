@@ -10,16 +10,10 @@ use Rattle.node.proofs.slots.Slot.hear_data.Tie as tie
 returns : tie.Need-returns
 returns c = rw (c .if1 .taken)
 
-cast-t8 : tie.Need-cast-t8
-cast-t8 c = search needs
-
-pad-requires : tie.Need-pad-requires
-pad-requires c κs = search needs
-
 returns-2 : tie.Need-returns-2
 returns-2 c =
     let payload = now (c .before .before .before .before .args .payload) in
     rw (c .before .if1 .left, c .pad .ensures ∙ padded-whole payload (omega arith))
 
 pub hear-data-spec : {M : Type 1} → statement M
-hear-data-spec = tie.close (tie.spec returns cast-t8 pad-requires returns-2)
+hear-data-spec = tie.close (tie.spec returns (λ c. search needs) (λ c κs. search needs) returns-2)
