@@ -14,7 +14,7 @@ use Rattle.one_stream.proofs.Sendings.{decide-full, decide-some, DataTi
 use Rattle.one_stream.specs.Frames.{Frame, Each, Any, NonEmpty}
 use Rattle.one_stream.specs.Classes.{Note, State, Live, Event, sendData, sendConf, sendCode2, give, tick, die, step, Legal}
 use Rattle.one_stream.proofs.Events.{fullOf, causes, live-before}
-use Rattle.one_stream.proofs.Histories.{Line}
+use Rattle.one_stream.proofs.Histories.{Strand}
 use Rattle.one_stream.proofs.Twice.{Lost, AnyLost, Twice, dataConf, dataCode2, confCode2}
 use Rattle.one_stream.proofs.Books.{Paced, Times, FrameOk, Books}
 use Rattle.one_stream.proofs.Chain.{Over, Past, NotDelivered, AllOrNone, Works, Inv, hold-over}
@@ -240,26 +240,26 @@ module _ (S : Delays) (fit : Fit S) where
       }
 
   -- what the invariant of a whole history says of 2M
-  module _ (L : Line (twoM S)) (a : Bool) (base : ℕ → List Note) (v : Inv S (twoM S) twoMWorks L a base) where
-    pub books-of : Books S (twoM S) (Cause S) (L .state) a
+  module _ (Z : Strand (twoM S)) (a : Bool) (base : ℕ → List Note) (v : Inv S (twoM S) twoMWorks Z a base) where
+    pub books-of : Books S (twoM S) (Cause S) (Z .state) a
     unfolding twoMWorks
     books-of = v .books
 
-    pub slots-of : Slots S (L .state) a base
+    pub slots-of : Slots S (Z .state) a base
     unfolding twoMWorks
     slots-of = v .slots
 
     -- a live sender without a hold: neither data nor confirmation may be sent any more
-    module _ (up : T (L .up)) (free : T (not (L .hold))) (begun : T (L .begun)) (hears : ℕ → Bool) (full : Bool) where
-      pub closed-data : Legal (twoM S) S (L .state) (sendData hears full) → ⊥
+    module _ (up : T (Z .up)) (free : T (not (Z .hold))) (begun : T (Z .begun)) (hears : ℕ → Bool) (full : Bool) where
+      pub closed-data : Legal (twoM S) S (Z .state) (sendData hears full) → ⊥
       unfolding Legal
       closed-data l =
-          omega (arith, l .2 (L .sender), hold-over S (twoM S) twoMWorks L a base v up free begun)
+          omega (arith, l .2 (Z .sender), hold-over S (twoM S) twoMWorks Z a base v up free begun)
 
-      pub closed-conf : Legal (twoM S) S (L .state) (sendConf hears full) → ⊥
+      pub closed-conf : Legal (twoM S) S (Z .state) (sendConf hears full) → ⊥
       unfolding Legal
       closed-conf l =
-          let i = L .sender in
+          let i = Z .sender in
           let t = books-of .times .sentData (l .2) in
-          let o = hold-over S (twoM S) twoMWorks L a base v up free begun in
+          let o = hold-over S (twoM S) twoMWorks Z a base v up free begun in
           omega (arith, l .3 i, o, t .order i, t .reach i, fit .deliverAfterAbort)

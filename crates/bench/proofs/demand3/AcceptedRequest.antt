@@ -26,8 +26,8 @@ use Rattle.bench.proofs.demand3.MessageKept.{Track}
 use Rattle.bench.proofs.demand3.RequestOpens.{logsOf}
 use Rattle.bench.proofs.demand3.ThroughHistory.{silent, opened, any-run}
 use Rattle.bench.proofs.demand3.PlanGives.{start-kept, start-silent, planned, start-fits, start-valid}
-use Rattle.one_stream.specs.Sendings as LS
-use Rattle.one_stream.specs.TwoM as LM
+use Rattle.one_stream.specs.Sendings as OS
+use Rattle.one_stream.specs.TwoM as OM
 
 -- what set up gave a slot stays
 kind-run : (s : Stream) (h : List Event) (b : Bench) → ((i : ℕ) → Kept (moduleAt i b .node)) → (i : ℕ) → kindOf (slotAt s i (run b h)) ≡ kindOf (slotAt s i b)
@@ -46,8 +46,8 @@ module _ (plan : Plan) (before rest : List Event) (j : ℕ) (s : Stream) (p : Li
   b₂ = step b₁ (asks j s p)
 
   pub record Requested : Type 0 where
-    pub D : LS.Delays
-    pub fit : LM.Fit D
+    pub D : OS.Delays
+    pub fit : OM.Fit D
     pub at-start : Valid D s j b₀
     pub at-request : Valid D s j b₁
     pub track : Track D fit s j (now b₁) p (logsOf s b₁) b₂

@@ -20,8 +20,8 @@ use Rattle.bench.proofs.demand3.SeenAfterOwnEvent.{Valid, valid-step}
 use Rattle.bench.proofs.demand3.MessageKept.{Track, track-tick}
 use Rattle.bench.proofs.demand3.RequestOpens.{logsOf}
 use Rattle.bench.proofs.demand3.Judgement.{live-back, count-step, count-run, window, judged-all-or-none, judged-all-if-full}
-use Rattle.one_stream.specs.Sendings as LS
-use Rattle.one_stream.specs.TwoM as LM
+use Rattle.one_stream.specs.Sendings as OS
+use Rattle.one_stream.specs.TwoM as OM
 
 -- ── histories ──
 pub run-append : (xs ys : List Event) (b : Bench) → run b (xs ++ ys) ≡ run (run b xs) ys
@@ -30,8 +30,8 @@ run-append (e ∷ es) ys b = run-append es ys (step b e)
 
 -- ── a message of a history: everything that is known of it when it is judged ──
 pub record Known (s : Stream) (p : List ℕ) (b₁ b₃ : Bench) : Type 0 where
-  pub D : LS.Delays
-  pub fit : LM.Fit D
+  pub D : OS.Delays
+  pub fit : OM.Fit D
   pub me : ℕ
   pub common : D .e ≡ 0
   pub valid : Valid D s me b₃
@@ -57,14 +57,14 @@ module _ (plan : Plan) (ok : T (proper plan)) (before since rest : List Event) (
     q : Requested plan before (since ++ (ticks ∷ rest)) j s p
     q = requested plan before (since ++ (ticks ∷ rest)) j s p ok keeps accepted two
 
-    abbrev D₀ : LS.Delays
+    abbrev D₀ : OS.Delays
     D₀ = q .D
 
     numbers : toDelays (slotAt s j b₁ .settings) ≡ D₀
     numbers = q .at-request .sender .1 .numbers
 
     long₀ : tickCount since ≡ D₀ .rd + D₀ .dd
-    long₀ = long ∙ ap (λ (d : LS.Delays). d .rd + d .dd) numbers
+    long₀ = long ∙ ap (λ (d : OS.Delays). d .rd + d .dd) numbers
 
     r₂ : Valid D₀ s j (run b₂ since) × Track D₀ (q .fit) s j (now b₁) p (logsOf s b₁) (run b₂ since)
         × T (keepsSoFar (run b₂ since) (ticks ∷ rest))
@@ -82,7 +82,7 @@ module _ (plan : Plan) (ok : T (proper plan)) (before since rest : List Event) (
           D = D₀;
           fit = q .fit;
           me = j;
-          common = sym (ap (λ (d : LS.Delays). d .e) numbers);
+          common = sym (ap (λ (d : OS.Delays). d .e) numbers);
           valid = valid-step D₀ s j (run b₂ since) ticks (r₂ .0);
           track = track-tick D₀ (q .fit) s j (now b₁) p (logsOf s b₁) (run b₂ since) (r₂ .0) (r₂ .1) may-tick;
           counted = λ i l.

@@ -25,15 +25,15 @@ use Rattle.bench.specs.Rules.{may, keepsSoFar, one, omission, count, cou
 use Rattle.bench.proofs.laws.SlotAfterCall.{same-stream, asking, hear-counter, tick-counter, ask-counter, giving, next-counter, onStream}
 use Rattle.bench.proofs.laws.ModuleAfterEvent.{hearsFrame, tickedLive, stepModule, module-step, countOf, asFunction, count-is}
 use Rattle.bench.proofs.demand3.ModuleSeen.{toSent, toFrame, toNote, notes, view}
-use Rattle.bench.proofs.demand3.SeenAfterOwnEvent.{Valid, valid-step, lineOf}
+use Rattle.bench.proofs.demand3.SeenAfterOwnEvent.{Valid, valid-step, strandOf}
 use Rattle.bench.proofs.demand3.RulesSeen.{full-was}
 use Rattle.bench.proofs.demand3.MessageKept.{Track}
 use Rattle.bench.proofs.demand3.RequestOpens.{logsOf, me-lives, sender-free}
 use Rattle.bench.proofs.demand3.ThroughHistory.{Opens, track-step}
-use Rattle.one_stream.specs.Sendings as LS
-use Rattle.one_stream.specs.Classes as LC
-use Rattle.one_stream.proofs.Histories as LH
-use Rattle.one_stream.specs.TwoM as LM
+use Rattle.one_stream.specs.Sendings as OS
+use Rattle.one_stream.specs.Classes as OC
+use Rattle.one_stream.proofs.Histories as OH
+use Rattle.one_stream.specs.TwoM as OM
 
 -- ── counting ticks ──
 pub live-back : (b : Bench) (e : Event) (i : ℕ) → T (isLive i (step b e)) → T (isLive i b)
@@ -82,7 +82,7 @@ count-run (e ∷ es) b i t =
     (omega (arith, r .0, count-step b e i (r .1)), live-back b e i (r .1))
 
 -- ── the sender is busy: no request of the stream is accepted while its hold lasts ──
-module _ (D : LS.Delays) (fit : LM.Fit D) (s : Stream) (me : ℕ) (since : Moment) (p : List ℕ) (base : ℕ → List LC.Note) where
+module _ (D : OS.Delays) (fit : OM.Fit D) (s : Stream) (me : ℕ) (since : Moment) (p : List ℕ) (base : ℕ → List OC.Note) where
   -- by the sender's count the hold is not over
   abbrev Holding : Bench → ℕ → Type 0
   Holding b more = T (isLive me b) → countOf b me + more ≤ asFunction since me + D .rd + D .dd
@@ -91,7 +91,7 @@ module _ (D : LS.Delays) (fit : LM.Fit D) (s : Stream) (me : ℕ) (since : Momen
   busy-sender b v x bound (asks j z q) (e, t) =
       let t′ = subst (λ y. T (isAccepted j y q b)) (sym e) t in
       let up = me-lives D fit s me q b v j t′ in
-      let o = hold-over D (LM.twoM D) (twoMWorks D fit) (lineOf D s me p b (x .k) (x .hold)) (x .a) base (x .inv) up
+      let o = hold-over D (OM.twoM D) (twoMWorks D fit) (strandOf D s me p b (x .k) (x .hold)) (x .a) base (x .inv) up
       (sender-free D fit s me since p base b v x j q t′) tt in
       omega (arith, bound up, o, ap (λ l. asFunction l me) (x .own .asked))
   busy-sender b v x bound (gives j z c) o = o
@@ -110,17 +110,17 @@ module _ (D : LS.Delays) (fit : LM.Fit D) (s : Stream) (me : ℕ) (since : Momen
       (and-r (may b e) (keepsSoFar (step b e) (es ++ r)) k) (λ l. omega (arith, bound (live-back b e me l), count-step b e me l))
 
 -- ── rule 2 ──
-omits : (f : Frame) → LS.Omitted (toSent (f .sendings)) → one (omission f) ≡ 1
+omits : (f : Frame) → OS.Omitted (toSent (f .sendings)) → one (omission f) ≡ 1
 unfolding toSent
 omits f = go (f .sendings)
   where
-    go : (d : Sendings) → LS.Omitted (toSent d)
+    go : (d : Sendings) → OS.Omitted (toSent d)
         → one (elim d [ never ↦ false | sent a b c ↦ true ] && not (elim d [ never ↦ false | sent a b c ↦ c ])) ≡ 1
     go never o = absurd o
     go (sent a b true) o = absurd o
     go (sent a b false) o = refl
 
-lost-count : (D : LS.Delays) (t : LS.Moment) (fs : List Frame) → AnyLost D t (map toFrame fs) → 1 ≤ count fs
+lost-count : (D : OS.Delays) (t : OS.Moment) (fs : List Frame) → AnyLost D t (map toFrame fs) → 1 ≤ count fs
 unfolding toFrame
 lost-count D t [] l = absurd l
 lost-count D t (f ∷ fs) (inl x) = omega (arith, omits f (x .short))
@@ -131,7 +131,7 @@ row-count q [] = omega arith
 row-count zero (row ∷ rows) = omega arith
 row-count (suc q) (row ∷ rows) = omega (arith, row-count q rows)
 
-module _ (D : LS.Delays) (s : Stream) (me : ℕ) (p : List ℕ) (b : Bench) (k : Book) (hold : Bool) (rule2 : T (oneOmission k)) where
+module _ (D : OS.Delays) (s : Stream) (me : ℕ) (p : List ℕ) (b : Bench) (k : Book) (hold : Bool) (rule2 : T (oneOmission k)) where
   few : one (omission (k .payloadFrame)) + one (omission (k .confirmation)) + countAll (k .aborts) ≤ 1
   few = leb→le (omissions k) 1 rule2
 
@@ -139,13 +139,13 @@ module _ (D : LS.Delays) (s : Stream) (me : ℕ) (p : List ℕ) (b : Bench) (k :
   unfolding view
   lost-row q l = omega (arith, row-count q (k .aborts), lost-count D (countOf b) (nth [] q (k .aborts)) l)
 
-  pub never-twice : Twice D (LM.twoM D) (lineOf D s me p b k hold .state) → ⊥
+  pub never-twice : Twice D (OM.twoM D) (strandOf D s me p b k hold .state) → ⊥
   never-twice (dataConf d c i x) = omega (arith, few, omits (k .payloadFrame) d, omits (k .confirmation) c)
   never-twice (dataCode2 d c q x) = omega (arith, few, omits (k .payloadFrame) d, lost-row q x)
   never-twice (confCode2 c i z q x) = omega (arith, few, omits (k .confirmation) c, lost-row q x)
 
 -- ── the deliveries of a stream, as notes ──
-abbrev asDelivery : Stream → LC.Note → Delivery
+abbrev asDelivery : Stream → OC.Note → Delivery
 asDelivery s n = record { at = n .at; stream = s; payload = n .bytes }
 
 notes-are : (s : Stream) (log : List Delivery) → onStream s log ≡ map (asDelivery s) (notes s log)
@@ -160,21 +160,21 @@ notes-are s (d ∷ ds) = go (sameStream (d .stream) s) (eqb→eq (d .stream .0) 
     go false e rest = rest
 
 -- ── the judgement: b₁ when the message was requested, b₃ when every live module has counted Rd + dd + 1 ticks more ──
-module _ (D : LS.Delays) (fit : LM.Fit D) (s : Stream) (me : ℕ) (p : List ℕ) (b₁ b₃ : Bench)
+module _ (D : OS.Delays) (fit : OM.Fit D) (s : Stream) (me : ℕ) (p : List ℕ) (b₁ b₃ : Bench)
     (x : Track D fit s me (now b₁) p (logsOf s b₁) b₃)
     (counted : (i : ℕ) → T (isLive i b₃) → countOf b₁ i + D .rd + D .dd < countOf b₃ i) (rule2 : T (oneOmission (bookOf s 0 b₃)))
     (common : D .e ≡ 0) where
-  abbrev w : LC.State (LM.twoM D)
-  w = lineOf D s me p b₃ (x .k) (x .hold) .state
+  abbrev w : OC.State (OM.twoM D)
+  w = strandOf D s me p b₃ (x .k) (x .hold) .state
 
-  abbrev line₃ : LH.Line (LM.twoM D)
-  line₃ = lineOf D s me p b₃ (x .k) (x .hold)
+  abbrev strand₃ : OH.Strand (OM.twoM D)
+  strand₃ = strandOf D s me p b₃ (x .k) (x .hold)
 
-  is-live : (i : ℕ) → T (liveReceiver s b₃ i) → LC.Live w i
+  is-live : (i : ℕ) → T (liveReceiver s b₃ i) → OC.Live w i
   unfolding view
   is-live i t = t
 
-  has-counted : (i : ℕ) → T (liveReceiver s b₃ i) → Over D (LM.twoM D) w i
+  has-counted : (i : ℕ) → T (liveReceiver s b₃ i) → Over D (OM.twoM D) w i
   has-counted i t =
       omega (
         arith,
@@ -185,7 +185,7 @@ module _ (D : LS.Delays) (fit : LM.Fit D) (s : Stream) (me : ℕ) (p : List ℕ)
         common,
       )
 
-  once : Twice D (LM.twoM D) w → ⊥
+  once : Twice D (OM.twoM D) w → ⊥
   once = never-twice D s me p b₃ (x .k) (x .hold) (subst (λ ks. T (oneOmission (nth noBook 0 ks))) (x .books) rule2)
 
   abbrev DeliveredOnce : ℕ → Type 0
@@ -200,24 +200,24 @@ module _ (D : LS.Delays) (fit : LM.Fit D) (s : Stream) (me : ℕ) (p : List ℕ)
         ∙ ap (λ l. record { at = t + D .dd + 1; stream = s; payload = p } ∷ l) (sym (notes-are s (moduleAt i b₁ .log)))),
   )
 
-  log-none : (i : ℕ) → NotDelivered (LM.twoM D) w (logsOf s b₁) i → delivered s i b₃ ≡ delivered s i b₁
+  log-none : (i : ℕ) → NotDelivered (OM.twoM D) w (logsOf s b₁) i → delivered s i b₃ ≡ delivered s i b₁
   unfolding view
   log-none i e = notes-are s (moduleAt i b₃ .log) ∙ (ap (map (asDelivery s)) e ∙ sym (notes-are s (moduleAt i b₁ .log)))
 
   abbrev AllLive : (ℕ → Type 0) → Type 0
   AllLive P = (i : ℕ) → T (liveReceiver s b₃ i) → P i
 
-  books : Books D (LM.twoM D) (Cause D) w (x .a)
-  books = books-of D fit line₃ (x .a) (logsOf s b₁) (x .inv)
+  books : Books D (OM.twoM D) (Cause D) w (x .a)
+  books = books-of D fit strand₃ (x .a) (logsOf s b₁) (x .inv)
 
   slots : Slots D w (x .a) (logsOf s b₁)
-  slots = slots-of D fit line₃ (x .a) (logsOf s b₁) (x .inv)
+  slots = slots-of D fit strand₃ (x .a) (logsOf s b₁) (x .inv)
 
   pub judged-all-or-none : AllLive DeliveredOnce ⊎ AllLive (λ i. delivered s i b₃ ≡ delivered s i b₁)
   judged-all-or-none = go (all-or-none D fit w (x .a) (logsOf s b₁) books slots once)
     where
-      go : ((i : ℕ) → LC.Live w i → Over D (LM.twoM D) w i → DeliveredAt D w (logsOf s b₁) i)
-          ⊎ ((i : ℕ) → LC.Live w i → Over D (LM.twoM D) w i → NotDelivered (LM.twoM D) w (logsOf s b₁) i)
+      go : ((i : ℕ) → OC.Live w i → Over D (OM.twoM D) w i → DeliveredAt D w (logsOf s b₁) i)
+          ⊎ ((i : ℕ) → OC.Live w i → Over D (OM.twoM D) w i → NotDelivered (OM.twoM D) w (logsOf s b₁) i)
           → AllLive DeliveredOnce ⊎ AllLive (λ i. delivered s i b₃ ≡ delivered s i b₁)
       go (inl each) = inl (λ i t. log-once i (each i (is-live i t) (has-counted i t)))
       go (inr none) = inr (λ i t. log-none i (none i (is-live i t) (has-counted i t)))

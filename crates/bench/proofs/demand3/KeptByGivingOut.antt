@@ -29,17 +29,17 @@ use Rattle.bench.proofs.laws.ModuleAfterEvent.{nth-at, module-step, nex
 use Rattle.bench.proofs.laws.BooksAfterEvent.{books-given}
 use Rattle.bench.proofs.laws.FramesOfBooks.{codeIn}
 use Rattle.bench.proofs.demand3.ModuleSeen.{toFrame}
-use Rattle.bench.proofs.demand3.SeenAfterOwnEvent.{Valid, lineOf, give-own-line, give-abort-line}
+use Rattle.bench.proofs.demand3.SeenAfterOwnEvent.{Valid, strandOf, give-own-strand, give-abort-strand}
 use Rattle.bench.proofs.demand3.MessageKept.{Sender, Track, send-back, own-moved, own-on-frame}
 use Rattle.wire.specs.Settings as wire
-use Rattle.one_stream.specs.Sendings as LS
-use Rattle.one_stream.specs.Frames as LF
-use Rattle.one_stream.specs.Classes as LC
-use Rattle.one_stream.proofs.Histories as LH
-use Rattle.one_stream.specs.TwoM as LM
+use Rattle.one_stream.specs.Sendings as OS
+use Rattle.one_stream.specs.Frames as OF
+use Rattle.one_stream.specs.Classes as OC
+use Rattle.one_stream.proofs.Histories as OH
+use Rattle.one_stream.specs.TwoM as OM
 use Rattle.bench.proofs.laws.SlotAfterCall as Laws
 
-module _ (D : LS.Delays) (fit : LM.Fit D) (s : Stream) (me : ℕ) (since : Moment) (p : List ℕ) (base : ℕ → List LC.Note) (b : Bench)
+module _ (D : OS.Delays) (fit : OM.Fit D) (s : Stream) (me : ℕ) (since : Moment) (p : List ℕ) (base : ℕ → List OC.Note) (b : Bench)
     (v : Valid D s me b)
     (x : Track D fit s me since p base b) (j : ℕ) where
   abbrev node : Node
@@ -122,10 +122,10 @@ module _ (D : LS.Delays) (fit : LM.Fit D) (s : Stream) (me : ℕ) (since : Momen
           short = x .sender .short;
         }
 
-    -- the book and everything but the line
+    -- the book and everything but the strand
     given : (w : Which) → whichOf j c ≡ w → codeIn w ≡ c → giving node .bytes ≡ cond (eqb c 0) p []
         → (a : Bool)
-        → Inv D (LM.twoM D) (twoMWorks D fit) (lineOf D s me p (After c) (onFrame w (gaveOut (next j b)) (x .k)) (x .hold)) a base
+        → Inv D (OM.twoM D) (twoMWorks D fit) (strandOf D s me p (After c) (onFrame w (gaveOut (next j b)) (x .k)) (x .hold)) a base
         → Follows (After c)
     given w which code bytes a inv =
         record {
@@ -168,32 +168,32 @@ module _ (D : LS.Delays) (fit : LM.Fit D) (s : Stream) (me : ℕ) (since : Momen
           let bytes = given-bytes 0 t ∙ subst (λ i. payloadOf (slotAt s i b .message) ≡ p) (sym isMe)
           (x .sender .payload (subst (λ i. T (slotAt s i b .pending .payload)) isMe y)) in
           given 0 t thePayload refl refl bytes (x .a)
-          (subst (λ L. Inv D (LM.twoM D) (twoMWorks D fit) L (x .a) base)
-          (give-own-line D s me p b v j 0 t (x .k) (onFrame thePayload (gaveOut (next j b)) (x .k)) refl refl refl (x .hold) refl refl) (x .inv))
+          (subst (λ Z. Inv D (OM.twoM D) (twoMWorks D fit) Z (x .a) base)
+          (give-own-strand D s me p b v j 0 t (x .k) (onFrame thePayload (gaveOut (next j b)) (x .k)) refl refl refl (x .hold) refl refl) (x .inv))
 
       conf-given : T (isNext j s 1 b) → Follows (After 1)
       conf-given t =
           given 1 t theConfirmation refl refl (given-bytes 1 t) (x .a)
-          (subst (λ L. Inv D (LM.twoM D) (twoMWorks D fit) L (x .a) base)
-          (give-own-line D s me p b v j 1 t (x .k) (onFrame theConfirmation (gaveOut (next j b)) (x .k)) refl refl refl (x .hold) refl refl) (x .inv))
+          (subst (λ Z. Inv D (OM.twoM D) (twoMWorks D fit) Z (x .a) base)
+          (give-own-strand D s me p b v j 1 t (x .k) (onFrame theConfirmation (gaveOut (next j b)) (x .k)) refl refl refl (x .hold) refl refl) (x .inv))
 
-      newest : (fs : List Frame) → map toFrame (at (gaveOut (next j b)) 0 fs) ≡ LF.giveNewest (map toFrame fs)
+      newest : (fs : List Frame) → map toFrame (at (gaveOut (next j b)) 0 fs) ≡ OF.giveNewest (map toFrame fs)
       newest [] = refl
       newest (f ∷ fs) = unfold toFrame in refl
 
       abort-rows : (i : ℕ) → map toFrame (nth [] i (at (at (gaveOut (next j b)) 0) j (x .k .aborts)))
-          ≡ cond (eqb i j) (LF.giveNewest (map toFrame (nth [] i (x .k .aborts)))) (map toFrame (nth [] i (x .k .aborts)))
+          ≡ cond (eqb i j) (OF.giveNewest (map toFrame (nth [] i (x .k .aborts)))) (map toFrame (nth [] i (x .k .aborts)))
       abort-rows i =
           ap (map toFrame) (nth-at [] (at (gaveOut (next j b)) 0) i j (x .k .aborts) (inr refl))
           ∙ into (map toFrame) (eqb i j) (newest (nth [] i (x .k .aborts))) refl
 
       abort-given : T (isNext j s 2 b) → Follows (After 2)
       abort-given t =
-          let r = act-keeps D (LM.twoM D) (twoMWorks D fit) (lineOf D s me p b (x .k) (x .hold)) (x .a) base (x .inv) (LH.on (LC.give j)) tt
+          let r = act-keeps D (OM.twoM D) (twoMWorks D fit) (strandOf D s me p b (x .k) (x .hold)) (x .a) base (x .inv) (OH.on (OC.give j)) tt
           tt in
           given 2 t (theAbort j 0) refl refl (given-bytes 2 t) (r .0)
-          (subst (λ L. Inv D (LM.twoM D) (twoMWorks D fit) L (r .0) base)
-          (give-abort-line D s me p b v j 2 t (x .k) (onFrame (theAbort j 0) (gaveOut (next j b)) (x .k)) refl refl refl (x .hold) refl abort-rows) (r .1))
+          (subst (λ Z. Inv D (OM.twoM D) (twoMWorks D fit) Z (r .0) base)
+          (give-abort-strand D s me p b v j 2 t (x .k) (onFrame (theAbort j 0) (gaveOut (next j b)) (x .k)) refl refl refl (x .hold) refl abort-rows) (r .1))
 
       go : {d : ℕ} → IsPending slot d → d ≡ c → Follows (After c)
       go (Laws.thePayload y) e =

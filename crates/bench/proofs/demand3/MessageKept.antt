@@ -1,4 +1,4 @@
--- What is known of a 2M stream from an accepted request on, and that every event keeps it: the newest book, its line with the
+-- What is known of a 2M stream from an accepted request on, and that every event keeps it: the newest book, its strand with the
 -- one-stream invariant, the sender's slot, and that nothing of older messages may be sent.
 use Prim.Native.Nat.{ℕ, _+_, _-_, _≤_}
 use native.Mathlib.Omega.{arith}
@@ -40,14 +40,14 @@ use Rattle.bench.proofs.laws.BooksAfterEvent.{entering, books-ticked, b
 use Rattle.bench.proofs.laws.FramesOfBooks.{codeIn, AllFrames, all-on-frame, all-entering}
 use Rattle.bench.proofs.demand3.ModuleSeen.{view}
 use Rattle.bench.proofs.demand3.StreamSeen.{row-enter, length-enter}
-use Rattle.bench.proofs.demand3.SeenAfterOwnEvent.{Valid, not-both, lineOf, lives, tick-line, bookAfter, books-after, data-line, conf-line, abort-line}
-use Rattle.bench.proofs.demand3.SeenAfterOtherEvent.{dead-node, die-other-line, die-own-line, else-line}
+use Rattle.bench.proofs.demand3.SeenAfterOwnEvent.{Valid, not-both, strandOf, lives, tick-strand, bookAfter, books-after, data-strand, conf-strand, abort-strand}
+use Rattle.bench.proofs.demand3.SeenAfterOtherEvent.{dead-node, die-other-strand, die-own-strand, else-strand}
 use Rattle.bench.proofs.demand3.RulesSeen.{maySend, was-given, legal-data, legal-conf, legal-abort, legal-tick}
 use Rattle.one_stream.proofs.Sendings.{move-reached}
-use Rattle.one_stream.specs.Sendings as LS
-use Rattle.one_stream.specs.Classes as LC
-use Rattle.one_stream.proofs.Histories as LH
-use Rattle.one_stream.specs.TwoM as LM
+use Rattle.one_stream.specs.Sendings as OS
+use Rattle.one_stream.specs.Classes as OC
+use Rattle.one_stream.proofs.Histories as OH
+use Rattle.one_stream.specs.TwoM as OM
 
 -- ── the record ──
 -- what a frame with this code carries, once it was given out
@@ -68,7 +68,7 @@ pub record Sender (s : Stream) (me : ℕ) (since : Moment) (p : List ℕ) (b : B
   pub short : length p ≤ 8
 
 -- the message p was requested at `since`; base: what each module had delivered by then
-pub record Track (D : LS.Delays) (fit : LM.Fit D) (s : Stream) (me : ℕ) (since : Moment) (p : List ℕ) (base : ℕ → List LC.Note) (b : Bench) :
+pub record Track (D : OS.Delays) (fit : OM.Fit D) (s : Stream) (me : ℕ) (since : Moment) (p : List ℕ) (base : ℕ → List OC.Note) (b : Bench) :
     Type 0 where
   pub k : Book
   pub ks : List Book
@@ -78,7 +78,7 @@ pub record Track (D : LS.Delays) (fit : LM.Fit D) (s : Stream) (me : ℕ) (since
   pub sender : Sender s me since p b hold
   pub old : (n : ℕ) (w : Which) → T (maySend b s (nth noBook n ks) w) → ⊥
   pub a : Bool
-  pub inv : Inv D (LM.twoM D) (twoMWorks D fit) (lineOf D s me p b k hold) a base
+  pub inv : Inv D (OM.twoM D) (twoMWorks D fit) (strandOf D s me p b k hold) a base
 
 -- ── what may not be sent any more stays so ──
 within-back : (R : ℕ) (f t t′ : Moment) → Later t t′ → T (within R f t′) → T (within R f t)
@@ -163,7 +163,7 @@ pending-receives s n k t =
     used false e = absurd (subst (λ (y : Slot). T (y .pending .abort)) (slot-kept s n k .free e) t)
 
 -- ── the newest book ──
-module _ (D : LS.Delays) (s : Stream) (me : ℕ) (since : Moment) (p : List ℕ) (b : Bench) (v : Valid D s me b) (e : Event) where
+module _ (D : OS.Delays) (s : Stream) (me : ℕ) (since : Moment) (p : List ℕ) (b : Bench) (v : Valid D s me b) (e : Event) where
   abbrev next-bench : Bench
   next-bench = step b e
 
@@ -233,16 +233,16 @@ own-on-frame s me since p b k (theAbort q y) change h c o =
     none true = refl
     none false = refl
 
-module _ (D : LS.Delays) (fit : LM.Fit D) (s : Stream) (me : ℕ) (since : Moment) (p : List ℕ) (base : ℕ → List LC.Note) (b : Bench)
+module _ (D : OS.Delays) (fit : OM.Fit D) (s : Stream) (me : ℕ) (since : Moment) (p : List ℕ) (base : ℕ → List OC.Note) (b : Bench)
     (v : Valid D s me b)
     (x : Track D fit s me since p base b) where
-  abbrev L₀ : LH.Line (LM.twoM D)
-  L₀ = lineOf D s me p b (x .k) (x .hold)
+  abbrev Z₀ : OH.Strand (OM.twoM D)
+  Z₀ = strandOf D s me p b (x .k) (x .hold)
 
   abbrev Follows : Bench → Type 0
   Follows = Track D fit s me since p base
 
-  abbrev works : Works D (LM.twoM D)
+  abbrev works : Works D (OM.twoM D)
   works = twoMWorks D fit
 
   old-step : (e : Event) (n : ℕ) (w : Which) → T (maySend (step b e) s (nth noBook n (x .ks)) w) → ⊥
@@ -270,7 +270,7 @@ module _ (D : LS.Delays) (fit : LM.Fit D) (s : Stream) (me : ℕ) (since : Momen
         sender = sender-same e (untouched-step s b e els me .slot);
         old = old-step e;
         a = x .a;
-        inv = subst (λ L. Inv D (LM.twoM D) works L (x .a) base) (else-line D s me p b e els (x .k) (x .hold)) (x .inv);
+        inv = subst (λ Z. Inv D (OM.twoM D) works Z (x .a) base) (else-strand D s me p b e els (x .k) (x .hold)) (x .inv);
       }
 
   -- ── a sending of the newest message ──
@@ -284,7 +284,7 @@ module _ (D : LS.Delays) (fit : LM.Fit D) (s : Stream) (me : ℕ) (since : Momen
       (λ t. refl)
 
   after-sending : (w : Which) (to : To) (a : Bool)
-      → Inv D (LM.twoM D) works (lineOf D s me p (step b (sends s 0 w to)) (bookAfter D s me p b v (x .k) (x .ks) (x .books) to w)
+      → Inv D (OM.twoM D) works (strandOf D s me p (step b (sends s 0 w to)) (bookAfter D s me p b v (x .k) (x .ks) (x .books) to w)
       (x .hold)) a base
       → Follows (step b (sends s 0 w to))
   after-sending w to a inv =
@@ -305,31 +305,31 @@ module _ (D : LS.Delays) (fit : LM.Fit D) (s : Stream) (me : ℕ) (since : Momen
   pub track-send : (w : Which) (to : To) → T (maySend b s (x .k) w) → Follows (step b (sends s 0 w to))
   track-send thePayload to t =
       let c = x .own .content thePayload (was-given b s (x .k) thePayload t) in
-      let r = act-keeps D (LM.twoM D) works L₀ (x .a) base (x .inv) (LH.on (LC.sendData (named to) (isFull to)))
+      let r = act-keeps D (OM.twoM D) works Z₀ (x .a) base (x .inv) (OH.on (OC.sendData (named to) (isFull to)))
       (tt, legal-data D s me p b v (x .k) (x .own .sender) (x .hold) to t) tt in
       after-sending thePayload to (r .0)
-      (subst (λ L. Inv D (LM.twoM D) works L (r .0) base)
-      (data-line D s me p b v (x .k) (x .ks) (x .books) to (x .own .sender) (x .own .size) (c .0) (c .1) (x .sender .short) (x .hold)) (r .1))
+      (subst (λ Z. Inv D (OM.twoM D) works Z (r .0) base)
+      (data-strand D s me p b v (x .k) (x .ks) (x .books) to (x .own .sender) (x .own .size) (c .0) (c .1) (x .sender .short) (x .hold)) (r .1))
   track-send theConfirmation to t =
       let c = x .own .content theConfirmation (was-given b s (x .k) theConfirmation t) in
-      let r = act-keeps D (LM.twoM D) works L₀ (x .a) base (x .inv) (LH.on (LC.sendConf (named to) (isFull to)))
+      let r = act-keeps D (OM.twoM D) works Z₀ (x .a) base (x .inv) (OH.on (OC.sendConf (named to) (isFull to)))
       (legal-conf D s me p b v (x .k) (x .own .sender) (x .hold) to t) tt in
       after-sending theConfirmation to (r .0)
-      (subst (λ L. Inv D (LM.twoM D) works L (r .0) base)
-      (conf-line D s me p b v (x .k) (x .ks) (x .books) to (x .own .sender) (x .own .size) (c .0) (c .1) (x .hold)) (r .1))
+      (subst (λ Z. Inv D (OM.twoM D) works Z (r .0) base)
+      (conf-strand D s me p b v (x .k) (x .ks) (x .books) to (x .own .sender) (x .own .size) (c .0) (c .1) (x .hold)) (r .1))
   track-send (theAbort q y) to t =
       let c = x .own .content (theAbort q y) (was-given b s (x .k) (theAbort q y) t) in
-      let r = act-keeps D (LM.twoM D) works L₀ (x .a) base (x .inv) (LH.on (LC.sendCode2 q y (named to) (isFull to)))
+      let r = act-keeps D (OM.twoM D) works Z₀ (x .a) base (x .inv) (OH.on (OC.sendCode2 q y (named to) (isFull to)))
       (legal-abort D s me p b v (x .k) (x .own .sender) (x .hold) (x .own .rows) q y to t) tt in
       after-sending (theAbort q y) to (r .0)
-      (subst (λ L. Inv D (LM.twoM D) works L (r .0) base)
-      (abort-line D s me p b v (x .k) (x .ks) (x .books) to (x .own .sender) (x .own .size) q y (c .0) (c .1) (x .hold)) (r .1))
+      (subst (λ Z. Inv D (OM.twoM D) works Z (r .0) base)
+      (abort-strand D s me p b v (x .k) (x .ks) (x .books) to (x .own .sender) (x .own .size) q y (c .0) (c .1) (x .hold)) (r .1))
 
   -- ── a death ──
   pub track-death : (j : ℕ) → Follows (step b (dies j))
   track-death j = go (eqb me j) refl
     where
-      dead : (a : Bool) → Inv D (LM.twoM D) works (lineOf D s me p (step b (dies j)) (x .k) (x .hold)) a base → Follows (step b (dies j))
+      dead : (a : Bool) → Inv D (OM.twoM D) works (strandOf D s me p (step b (dies j)) (x .k) (x .hold)) a base → Follows (step b (dies j))
       dead a inv =
           record {
             k = x .k;
@@ -343,15 +343,15 @@ module _ (D : LS.Delays) (fit : LM.Fit D) (s : Stream) (me : ℕ) (since : Momen
             inv = inv;
           }
 
-      r₁ : (a′ : Bool) × Inv D (LM.twoM D) works (LH.act (LM.twoM D) L₀ (LH.on (LC.die j))) a′ base
-      r₁ = act-keeps D (LM.twoM D) works L₀ (x .a) base (x .inv) (LH.on (LC.die j)) tt tt
+      r₁ : (a′ : Bool) × Inv D (OM.twoM D) works (OH.act (OM.twoM D) Z₀ (OH.on (OC.die j))) a′ base
+      r₁ = act-keeps D (OM.twoM D) works Z₀ (x .a) base (x .inv) (OH.on (OC.die j)) tt tt
 
       go : (t : Bool) → eqb me j ≡ t → Follows (step b (dies j))
       go false e =
-          dead (r₁ .0) (subst (λ L. Inv D (LM.twoM D) works L (r₁ .0) base) (die-other-line D s me p b (x .k) (x .hold) j e) (r₁ .1))
+          dead (r₁ .0) (subst (λ Z. Inv D (OM.twoM D) works Z (r₁ .0) base) (die-other-strand D s me p b (x .k) (x .hold) j e) (r₁ .1))
       go true e =
-          let r₂ = act-keeps D (LM.twoM D) works (LH.act (LM.twoM D) L₀ (LH.on (LC.die j))) (r₁ .0) base (r₁ .1) LH.senderDies tt tt in
-          dead (r₂ .0) (subst (λ L. Inv D (LM.twoM D) works L (r₂ .0) base) (die-own-line D s me p b (x .k) (x .hold) j e) (r₂ .1))
+          let r₂ = act-keeps D (OM.twoM D) works (OH.act (OM.twoM D) Z₀ (OH.on (OC.die j))) (r₁ .0) base (r₁ .1) OH.senderDies tt tt in
+          dead (r₂ .0) (subst (λ Z. Inv D (OM.twoM D) works Z (r₂ .0) base) (die-own-strand D s me p b (x .k) (x .hold) j e) (r₂ .1))
 
   -- ── a tick ──
   abbrev y₀ : Slot
@@ -391,7 +391,7 @@ module _ (D : LS.Delays) (fit : LM.Fit D) (s : Stream) (me : ℕ) (since : Momen
 
   abbrev hold′ : Bool
   hold′ =
-      x .hold && not (ltb (D .rd + D .dd + D .e) (LS.move (lives D s me p b) (countOf b) me - asFunction (x .k .payloadFrame .since) me))
+      x .hold && not (ltb (D .rd + D .dd + D .e) (OS.move (lives D s me p b) (countOf b) me - asFunction (x .k .payloadFrame .since) me))
 
   sender-ticked : Sender s me since p (step b ticks) hold′
   sender-ticked = go (isLive me b) refl
@@ -431,26 +431,26 @@ module _ (D : LS.Delays) (fit : LM.Fit D) (s : Stream) (me : ℕ) (since : Momen
         where
           hold-is : isLive me b ≡ true → (h : Bool) → h ≡ y₀ .message .held
               → (h && not (ltb (D .rd + D .dd + D .e)
-              (LS.move (lives D s me p b) (countOf b) me - asFunction (x .k .payloadFrame .since) me)))
+              (OS.move (lives D s me p b) (countOf b) me - asFunction (x .k .payloadFrame .since) me)))
               ≡ (y₀ .message .held && not (y₀ .message .held && ltb (y₀ .settings .rd + y₀ .settings .dd) age))
           hold-is live h e =
               let n = v .sender .1 .numbers in
-              let rd = ap (λ (d : LS.Delays). d .rd) n in
-              let dd = ap (λ (d : LS.Delays). d .dd) n in
-              let drift = ap (λ (d : LS.Delays). d .e) n in
+              let rd = ap (λ (d : OS.Delays). d .rd) n in
+              let dd = ap (λ (d : OS.Delays). d .dd) n in
+              let drift = ap (λ (d : OS.Delays). d .e) n in
               let now = move-reached (isLive me b) (countOf b me) (so live) in
               let asked = ap (λ t. asFunction t me) (x .own .asked) in
               let long : D .rd + D .dd + D .e ≡ y₀ .settings .rd + y₀ .settings .dd = omega (arith, rd, dd, drift) in
-              let aged : T (y₀ .message .held) → LS.move (lives D s me p b) (countOf b) me - asFunction (x .k .payloadFrame .since) me ≡ age =
+              let aged : T (y₀ .message .held) → OS.move (lives D s me p b) (countOf b) me - asFunction (x .k .payloadFrame .since) me ≡ age =
               λ t. omega (arith, now, asked, x .sender .stamp t) in
               hold-eq h (y₀ .message .held) e long aged
 
   pub track-tick : T (may b ticks) → Follows (step b ticks)
   track-tick t =
-      let common : LH.Common (LM.twoM D) L₀ (lives D s me p b) =
+      let common : OH.Common (OM.twoM D) Z₀ (lives D s me p b) =
       unfold view in record { receivers = λ i l. and-l (isLive i b) (isReceiver (slotAt s i b)) l; sender = λ l. l } in
       let legal = legal-tick D s me p b v (x .k) (x .own .sender) (x .hold) (x .ks) (x .books) t in
-      let r = act-keeps D (LM.twoM D) works L₀ (x .a) base (x .inv) (LH.ticks (lives D s me p b)) (inl common, legal) tt in
+      let r = act-keeps D (OM.twoM D) works Z₀ (x .a) base (x .inv) (OH.ticks (lives D s me p b)) (inl common, legal) tt in
       record {
         k = entering s (b .modules) (step b ticks .modules) (x .k);
         ks = x .ks;
@@ -460,5 +460,5 @@ module _ (D : LS.Delays) (fit : LM.Fit D) (s : Stream) (me : ℕ) (since : Momen
         sender = sender-ticked;
         old = old-step ticks;
         a = r .0;
-        inv = subst (λ L. Inv D (LM.twoM D) works L (r .0) base) (tick-line D s me p b v (x .k) (x .own .size) (x .hold)) (r .1);
+        inv = subst (λ Z. Inv D (OM.twoM D) works Z (r .0) base) (tick-strand D s me p b v (x .k) (x .own .size) (x .hold)) (r .1);
       }

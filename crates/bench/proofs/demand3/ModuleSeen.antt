@@ -30,45 +30,45 @@ use Rattle.bench.specs.Events.{onto, deliveries}
 use Rattle.bench.specs.Lists.{at}
 use Rattle.bench.proofs.laws.SlotAfterCall.{same-stream, slot-kept, hearing, hear-own, ticking, tick-slot, onStream, deliveryOf, tick-delivers}
 use Rattle.bench.proofs.laws.ModuleAfterEvent.{asFunction}
-use Rattle.one_stream.specs.Sendings as LS
-use Rattle.one_stream.specs.Frames as LF
-use Rattle.one_stream.specs.Classes as LC
-use Rattle.one_stream.specs.TwoM as LM
+use Rattle.one_stream.specs.Sendings as OS
+use Rattle.one_stream.specs.Frames as OF
+use Rattle.one_stream.specs.Classes as OC
+use Rattle.one_stream.specs.TwoM as OM
 
 -- ── sendings and frames ──
-unfoldable pub toSent : Sendings → LS.Sent
-toSent never = LS.never
-toSent (sent a b f) = LS.sent (asFunction a) (asFunction b) f
+unfoldable pub toSent : Sendings → OS.Sent
+toSent never = OS.never
+toSent (sent a b f) = OS.sent (asFunction a) (asFunction b) f
 
 -- a frame of code 2: an abort has no payload
-unfoldable pub toFrame : Frame → LF.Frame
+unfoldable pub toFrame : Frame → OF.Frame
 toFrame f = record { since = asFunction (f .since); given = f .given; sendings = toSent (f .sendings); bytes = [] }
 
-abbrev pub toDelays : Settings → LS.Delays
+abbrev pub toDelays : Settings → OS.Delays
 toDelays set = record { rd = set .rd; dc = set .dc; ra = set .ra; dd = set .dd; e = 0; da = 0 }
 
-abbrev pub toNote : Delivery → LC.Note
+abbrev pub toNote : Delivery → OC.Note
 toNote d = record { at = d .at; bytes = d .payload }
 
-abbrev pub notes : Stream → List Delivery → List LC.Note
+abbrev pub notes : Stream → List Delivery → List OC.Note
 notes s log = map toNote (onStream s log)
 
 -- ── the slot ──
-unfoldable pub heldIn : Message → LM.Slot
-heldIn m = cond (m .held) (LM.held (m .stamp) (m .confirmed) (payloadOf m)) LM.empty
+unfoldable pub heldIn : Message → OM.Slot
+heldIn m = cond (m .held) (OM.held (m .stamp) (m .confirmed) (payloadOf m)) OM.empty
 
-module _ (D : LS.Delays) where
+module _ (D : OS.Delays) where
   -- a module that has no receive slot for the stream is no live receiver
-  abbrev pub viewOf : (live receiver : Bool) → LM.Slot → (pending : Bool) → List LF.Frame → List LC.Note → LC.Receiver (LM.twoM D)
-  viewOf l r h p fs log = record { live = l && r; slot = cond r h LM.empty; pending = p; frames = fs; log = log }
+  abbrev pub viewOf : (live receiver : Bool) → OM.Slot → (pending : Bool) → List OF.Frame → List OC.Note → OC.Receiver (OM.twoM D)
+  viewOf l r h p fs log = record { live = l && r; slot = cond r h OM.empty; pending = p; frames = fs; log = log }
 
-  unfoldable pub view : Stream → Module → List Frame → LC.Receiver (LM.twoM D)
+  unfoldable pub view : Stream → Module → List Frame → OC.Receiver (OM.twoM D)
   view s m fs =
       let x = slotOf s (m .node) in
       viewOf (m .live) (isReceiver x) (heldIn (x .message)) (x .pending .abort) (map toFrame fs) (notes s (m .log))
 
 -- what a slot looks like to the stream; what is held matters at a receiver alone
-pub record Looks (r : Bool) (h : LM.Slot) (p : Bool) (x : Slot) : Type 0 where
+pub record Looks (r : Bool) (h : OM.Slot) (p : Bool) (x : Slot) : Type 0 where
   pub receiver : isReceiver x ≡ r
   pub held : T r → heldIn (x .message) ≡ h
   pub pending : x .pending .abort ≡ p
@@ -76,7 +76,7 @@ pub record Looks (r : Bool) (h : LM.Slot) (p : Bool) (x : Slot) : Type 0 where
 pub looks : (x : Slot) → Looks (isReceiver x) (heldIn (x .message)) (x .pending .abort) x
 looks x = record { receiver = refl; held = λ t. refl; pending = refl }
 
-pub view-looks : (D : LS.Delays) (s : Stream) (m : Module) (fs : List Frame) {r : Bool} {h : LM.Slot} {p : Bool}
+pub view-looks : (D : OS.Delays) (s : Stream) (m : Module) (fs : List Frame) {r : Bool} {h : OM.Slot} {p : Bool}
     → Looks r h p (slotOf s (m .node))
     → view D s m fs ≡ viewOf D (m .live) r h p (map toFrame fs) (notes s (m .log))
 unfolding view
@@ -98,13 +98,13 @@ take-all [] rest = refl
 take-all (x ∷ xs) rest = ap (λ l. x ∷ l) (take-all xs rest)
 
 -- the node's test of a duplicate is the one on bytes
-same-length : (a b : List ℕ) → T (LM.sameBytes a b) → length a ≡ length b
+same-length : (a b : List ℕ) → T (OM.sameBytes a b) → length a ≡ length b
 same-length [] [] t = refl
 same-length [] (y ∷ ys) t = absurd t
 same-length (x ∷ xs) [] t = absurd t
-same-length (x ∷ xs) (y ∷ ys) t = ap suc (same-length xs ys (and-r (eqb x y) (LM.sameBytes xs ys) t))
+same-length (x ∷ xs) (y ∷ ys) t = ap suc (same-length xs ys (and-r (eqb x y) (OM.sameBytes xs ys) t))
 
-same-tests : (a b : List ℕ) → sameBytes a b ≡ LM.sameBytes a b
+same-tests : (a b : List ℕ) → sameBytes a b ≡ OM.sameBytes a b
 unfolding sameBytes
 same-tests [] [] = refl
 same-tests [] (y ∷ ys) = refl
@@ -114,9 +114,9 @@ same-tests (x ∷ xs) (y ∷ ys) = ap (λ t. eqb x y && t) (same-tests xs ys)
 payload-length : (now : ℕ) (set : Settings) (m : Message) → KeptMessage now set m → length (payloadOf m) ≡ m .len
 payload-length now set m k = simp length-take (omega (arith, k .short, k .eight-bytes))
 
-same-is : (now : ℕ) (set : Settings) (m : Message) → KeptMessage now set m → (p : List ℕ) → same m p ≡ LM.sameBytes (payloadOf m) p
+same-is : (now : ℕ) (set : Settings) (m : Message) → KeptMessage now set m → (p : List ℕ) → same m p ≡ OM.sameBytes (payloadOf m) p
 same-is now set m k p =
-    ap (λ t. eqb (m .len) (length p) && t) (same-tests (payloadOf m) p) ∙ go (LM.sameBytes (payloadOf m) p) (same-length (payloadOf m) p)
+    ap (λ t. eqb (m .len) (length p) && t) (same-tests (payloadOf m) p) ∙ go (OM.sameBytes (payloadOf m) p) (same-length (payloadOf m) p)
   where
     go : (t : Bool) → (T t → length (payloadOf m) ≡ length p) → (eqb (m .len) (length p) && t) ≡ t
     go true e =
@@ -142,49 +142,49 @@ or-false false = refl
 
 -- what the three frames make of a 2M receiver's slot
 data-looks : (now : ℕ) (x : Slot) → KeptMessage now (x .settings) (x .message) → (p : List ℕ)
-    → Looks (isReceiver x) (LM.dataSlot now p (heldIn (x .message))) (x .pending .abort) (cond (not (clashes 0 p x)) (heardBy now 0 p x) x)
+    → Looks (isReceiver x) (OM.dataSlot now p (heldIn (x .message))) (x .pending .abort) (cond (not (clashes 0 p x)) (heardBy now 0 p x) x)
 unfolding heldIn heardBy
 data-looks now x k p = go (x .message .held) refl (same (x .message) p) refl (same-is now (x .settings) (x .message) k p)
   where
     go : (h : Bool) → x .message .held ≡ h → (t : Bool) → same (x .message) p ≡ t
-        → same (x .message) p ≡ LM.sameBytes (payloadOf (x .message)) p
-        → Looks (isReceiver x) (LM.dataSlot now p
-        (cond (x .message .held) (LM.held (x .message .stamp) (x .message .confirmed) (payloadOf (x .message))) LM.empty))
+        → same (x .message) p ≡ OM.sameBytes (payloadOf (x .message)) p
+        → Looks (isReceiver x) (OM.dataSlot now p
+        (cond (x .message .held) (OM.held (x .message .stamp) (x .message .confirmed) (payloadOf (x .message))) OM.empty))
         (x .pending .abort) (cond (not (x .message .held && not (same (x .message) p))) (dataHeard now p x) x)
     go false e t f tests =
         record {
           receiver = rw e refl;
-          held = λ r. rw e (ap (LM.held now false) (take-all p (drop (length p) (replicate 8 0))));
+          held = λ r. rw e (ap (OM.held now false) (take-all p (drop (length p) (replicate 8 0))));
           pending = rw e refl;
         }
     go true e true f tests =
-        let g : LM.sameBytes (payloadOf (x .message)) p ≡ true = sym tests ∙ f in
+        let g : OM.sameBytes (payloadOf (x .message)) p ≡ true = sym tests ∙ f in
         record { receiver = rw (e, f) refl; held = λ r. rw (e, f, g) refl; pending = rw (e, f) refl }
     go true e false f tests =
-        let g : LM.sameBytes (payloadOf (x .message)) p ≡ false = sym tests ∙ f in
+        let g : OM.sameBytes (payloadOf (x .message)) p ≡ false = sym tests ∙ f in
         record { receiver = rw (e, f) refl; held = λ r. rw (e, f, g) refl; pending = rw (e, f) refl }
 
 conf-looks : (now : ℕ) (x : Slot)
-    → Looks (isReceiver x) (LM.confSlot (heldIn (x .message))) (x .pending .abort || LM.isEmpty (heldIn (x .message))) (heardBy now 1 [] x)
+    → Looks (isReceiver x) (OM.confSlot (heldIn (x .message))) (x .pending .abort || OM.isEmpty (heldIn (x .message))) (heardBy now 1 [] x)
 unfolding heldIn heardBy
 conf-looks now x = go (x .message .held) refl (x .pending .abort) refl
   where
     go : (h : Bool) → x .message .held ≡ h → (p : Bool) → x .pending .abort ≡ p
-        → Looks (isReceiver x) (LM.confSlot
-        (cond (x .message .held) (LM.held (x .message .stamp) (x .message .confirmed) (payloadOf (x .message))) LM.empty))
-        (x .pending .abort || LM.isEmpty (cond (x .message .held)
-        (LM.held (x .message .stamp) (x .message .confirmed) (payloadOf (x .message))) LM.empty))
+        → Looks (isReceiver x) (OM.confSlot
+        (cond (x .message .held) (OM.held (x .message .stamp) (x .message .confirmed) (payloadOf (x .message))) OM.empty))
+        (x .pending .abort || OM.isEmpty (cond (x .message .held)
+        (OM.held (x .message .stamp) (x .message .confirmed) (payloadOf (x .message))) OM.empty))
         (confirmationHeard x)
     go true e true f = record { receiver = rw e refl; held = λ t. rw e refl; pending = rw (e, f) refl }
     go true e false f = record { receiver = rw e refl; held = λ t. rw e refl; pending = rw (e, f) refl }
     go false e true f = record { receiver = rw e refl; held = λ t. rw e refl; pending = rw (e, f) refl }
     go false e false f = record { receiver = rw e refl; held = λ t. rw e refl; pending = rw (e, f) refl }
 
-abort-looks : (now : ℕ) (x : Slot) → Looks (isReceiver x) LM.empty (x .pending .abort) (heardBy now 2 [] x)
+abort-looks : (now : ℕ) (x : Slot) → Looks (isReceiver x) OM.empty (x .pending .abort) (heardBy now 2 [] x)
 unfolding heldIn heardBy
 abort-looks now x = go (x .message .held) refl
   where
-    go : (h : Bool) → x .message .held ≡ h → Looks (isReceiver x) LM.empty (x .pending .abort) (abortHeard x)
+    go : (h : Bool) → x .message .held ≡ h → Looks (isReceiver x) OM.empty (x .pending .abort) (abortHeard x)
     go true e = record { receiver = rw e refl; held = λ t. rw e refl; pending = rw e refl }
     go false e = record { receiver = rw e refl; held = λ t. rw e refl; pending = rw e refl }
 
@@ -273,13 +273,13 @@ module _ (s : Stream) (small : s .0 ≤ maxStream) (n : Node) (k : Kept n)
   abbrev r : Bool
   r = isReceiver x
 
-  abbrev h : LM.Slot
+  abbrev h : OM.Slot
   h = heldIn (x .message)
 
   abbrev p : Bool
   p = x .pending .abort
 
-  looks-if : (h′ : LM.Slot) (p′ : Bool) (y : Slot) → r ≡ true → Looks r h′ p′ y → Looks r (cond r h′ h) (cond r p′ p) y
+  looks-if : (h′ : OM.Slot) (p′ : Bool) (y : Slot) → r ≡ true → Looks r h′ p′ y → Looks r (cond r h′ h) (cond r p′ p) y
   looks-if h′ p′ y e l =
       record {
         receiver = l .receiver;
@@ -287,28 +287,28 @@ module _ (s : Stream) (small : s .0 ≤ maxStream) (n : Node) (k : Kept n)
         pending = l .pending ∙ sym (cond-true r p′ p (so e));
       }
 
-  looks-not : (h′ : LM.Slot) (p′ : Bool) → r ≡ false → Looks r (cond r h′ h) (cond r p′ p) x
+  looks-not : (h′ : OM.Slot) (p′ : Bool) → r ≡ false → Looks r (cond r h′ h) (cond r p′ p) x
   looks-not h′ p′ e =
       record { receiver = refl; held = λ t. absurd (not-so e t); pending = sym (cond-false r p′ p (not-so e)) }
 
   pub heard-data : (b : List ℕ) → length b ≤ 8
-      → Looks r (cond r (LM.dataSlot (n .counter) b h) h) (cond r p p) (slotOf s (hearing (idOf s 0) b n .node))
+      → Looks r (cond r (OM.dataSlot (n .counter) b h) h) (cond r p p) (slotOf s (hearing (idOf s 0) b n .node))
   heard-data b short =
-      let h′ = LM.dataSlot (n .counter) b h in
+      let h′ = OM.dataSlot (n .counter) b h in
       hear-elim (Looks r (cond r h′ h) (cond r p p)) 0 (omega arith) b short (λ c. let z : ⊥ = omega arith in absurd z) (looks-not h′ p)
       (λ e. looks-if h′ p _ e (data-looks (n .counter) x (slot-kept s n k .message) b))
 
-  pub heard-conf : Looks r (cond r (LM.confSlot h) h) (cond r (p || LM.isEmpty h) p) (slotOf s (hearing (idOf s 1) [] n .node))
+  pub heard-conf : Looks r (cond r (OM.confSlot h) h) (cond r (p || OM.isEmpty h) p) (slotOf s (hearing (idOf s 1) [] n .node))
   heard-conf =
-      let h′ = LM.confSlot h in
-      let p′ = p || LM.isEmpty h in
+      let h′ = OM.confSlot h in
+      let p′ = p || OM.isEmpty h in
       hear-elim (Looks r (cond r h′ h) (cond r p′ p)) 1 (omega arith) [] (omega arith) (λ c. refl) (looks-not h′ p′)
       (λ e. looks-if h′ p′ _ e (conf-looks (n .counter) x))
 
-  pub heard-abort : Looks r (cond r LM.empty h) (cond r p p) (slotOf s (hearing (idOf s 2) [] n .node))
+  pub heard-abort : Looks r (cond r OM.empty h) (cond r p p) (slotOf s (hearing (idOf s 2) [] n .node))
   heard-abort =
-      hear-elim (Looks r (cond r LM.empty h) (cond r p p)) 2 (omega arith) [] (omega arith) (λ c. refl) (looks-not LM.empty p)
-      (λ e. looks-if LM.empty p _ e (abort-looks (n .counter) x))
+      hear-elim (Looks r (cond r OM.empty h) (cond r p p)) 2 (omega arith) [] (omega arith) (λ c. refl) (looks-not OM.empty p)
+      (λ e. looks-if OM.empty p _ e (abort-looks (n .counter) x))
 
   -- ── a tick ──
   abbrev t : ℕ
@@ -320,18 +320,18 @@ module _ (s : Stream) (small : s .0 ≤ maxStream) (n : Node) (k : Kept n)
   abbrev dueNow : Bool
   dueNow = due (t - x .message .stamp) x
 
-  late-is : r ≡ true → lateNow ≡ LM.late (toDelays (x .settings)) t h
+  late-is : r ≡ true → lateNow ≡ OM.late (toDelays (x .settings)) t h
   unfolding late heldIn
   late-is e = rw (e, is-true (isTwoMessage (x .settings)) (two (so e))) (go (x .message .held) (x .message .confirmed))
     where
       go : (h c : Bool) → (true && h && true && not c && ltb (x .settings .dc) (t - x .message .stamp))
-          ≡ LM.late (toDelays (x .settings)) t (cond h (LM.held (x .message .stamp) c (payloadOf (x .message))) LM.empty)
+          ≡ OM.late (toDelays (x .settings)) t (cond h (OM.held (x .message .stamp) c (payloadOf (x .message))) OM.empty)
       go true true = refl
       go true false = refl
       go false true = refl
       go false false = refl
 
-  due-is : r ≡ true → dueNow ≡ LM.due (toDelays (x .settings)) t h
+  due-is : r ≡ true → dueNow ≡ OM.due (toDelays (x .settings)) t h
   unfolding due heldIn
   due-is e =
       rw (e, is-true (isTwoMessage (x .settings)) (two (so e)))
@@ -341,7 +341,7 @@ module _ (s : Stream) (small : s .0 ≤ maxStream) (n : Node) (k : Kept n)
       imd-not = rw (eqb→eq (x .settings .class) 2 (two (so e))) refl
 
       go : (h c i : Bool) → i ≡ false → (true && h && (i || true && c) && ltb (x .settings .dd) (t - x .message .stamp))
-          ≡ LM.due (toDelays (x .settings)) t (cond h (LM.held (x .message .stamp) c (payloadOf (x .message))) LM.empty)
+          ≡ OM.due (toDelays (x .settings)) t (cond h (OM.held (x .message .stamp) c (payloadOf (x .message))) OM.empty)
       go true true false f = refl
       go true false false f = refl
       go false true false f = refl
@@ -360,7 +360,7 @@ module _ (s : Stream) (small : s .0 ≤ maxStream) (n : Node) (k : Kept n)
       none false = refl
 
   tick-receiver : r ≡ true → (l d : Bool) → lateNow ≡ l → dueNow ≡ d
-      → Looks r (cond (l || d) LM.empty h) (p || l) (tickSlot unbounded t x)
+      → Looks r (cond (l || d) OM.empty h) (p || l) (tickSlot unbounded t x)
   unfolding lapsed heldIn
   tick-receiver e true d el ed = record { receiver = rw el refl; held = λ y. rw el refl; pending = rw el (sym (or-true p)) }
     where
@@ -386,48 +386,48 @@ module _ (s : Stream) (small : s .0 ≤ maxStream) (n : Node) (k : Kept n)
       let z = not-receiver e in
       record { receiver = rw (z .0, z .1, eh) refl; held = λ y. absurd (not-so e y); pending = rw (z .0, z .1, eh) refl }
 
-  module _ (D : LS.Delays) (set : T r → toDelays (x .settings) ≡ D) where
-    pub ticked-looks : Looks r (cond r (cond (LM.late D t h || LM.due D t h) LM.empty h) h) (cond r (p || LM.late D t h) p)
+  module _ (D : OS.Delays) (set : T r → toDelays (x .settings) ≡ D) where
+    pub ticked-looks : Looks r (cond r (cond (OM.late D t h || OM.due D t h) OM.empty h) h) (cond r (p || OM.late D t h) p)
         (slotOf s (ticking n .node))
     ticked-looks = subst (Looks r (cond r h′ h) (cond r p′ p)) (sym (tick-slot s n)) (go r refl)
       where
-        h′ : LM.Slot
-        h′ = cond (LM.late D t h || LM.due D t h) LM.empty h
+        h′ : OM.Slot
+        h′ = cond (OM.late D t h || OM.due D t h) OM.empty h
 
         p′ : Bool
-        p′ = p || LM.late D t h
+        p′ = p || OM.late D t h
 
         go : (b : Bool) → r ≡ b → Looks r (cond r h′ h) (cond r p′ p) (tickSlot unbounded t x)
         go true e =
             looks-if h′ p′ (tickSlot unbounded t x) e
-            (tick-receiver e (LM.late D t h) (LM.due D t h)
-            (late-is e ∙ ap (λ S. LM.late S t h) (set (so e))) (due-is e ∙ ap (λ S. LM.due S t h) (set (so e))))
+            (tick-receiver e (OM.late D t h) (OM.due D t h)
+            (late-is e ∙ ap (λ S. OM.late S t h) (set (so e))) (due-is e ∙ ap (λ S. OM.due S t h) (set (so e))))
         go false e =
             let l = tick-other e (holdOver (t - x .message .stamp) x) refl in
             record { receiver = l .receiver; held = λ y. absurd (not-so e y); pending = l .pending ∙ sym (cond-false r p′ p (not-so e)) }
 
     pub ticked-log : (log : List Delivery)
-        → notes s (onto (deliveries unbounded n) log) ≡ cond (r && LM.due D t h) (record { at = t; bytes = LM.bytesOf h } ∷ notes s log)
+        → notes s (onto (deliveries unbounded n) log) ≡ cond (r && OM.due D t h) (record { at = t; bytes = OM.bytesOf h } ∷ notes s log)
         (notes s log)
     ticked-log log = ap (map toNote) (tick-delivers s n k log) ∙ go r refl
       where
-        bytes : (a c : Bool) → T (LM.due D t (cond a (LM.held (x .message .stamp) c (payloadOf (x .message))) LM.empty))
-            → payloadOf (x .message) ≡ LM.bytesOf (cond a (LM.held (x .message .stamp) c (payloadOf (x .message))) LM.empty)
+        bytes : (a c : Bool) → T (OM.due D t (cond a (OM.held (x .message .stamp) c (payloadOf (x .message))) OM.empty))
+            → payloadOf (x .message) ≡ OM.bytesOf (cond a (OM.held (x .message .stamp) c (payloadOf (x .message))) OM.empty)
         bytes true c y = refl
         bytes false c y = absurd y
 
         go : (b : Bool) → r ≡ b
             → map toNote (cond dueNow (deliveryOf t x ∷ onStream s log) (onStream s log))
-            ≡ cond (b && LM.due D t h) (record { at = t; bytes = LM.bytesOf h } ∷ notes s log) (notes s log)
+            ≡ cond (b && OM.due D t h) (record { at = t; bytes = OM.bytesOf h } ∷ notes s log) (notes s log)
         go false e = ap (λ d. map toNote (cond d (deliveryOf t x ∷ onStream s log) (onStream s log))) (not-receiver e .1)
         go true e =
             ap (λ d. map toNote (cond d (deliveryOf t x ∷ onStream s log) (onStream s log)))
-            (due-is e ∙ ap (λ S. LM.due S t h) (set (so e)))
-            ∙ each (LM.due D t h) (λ y. y)
+            (due-is e ∙ ap (λ S. OM.due S t h) (set (so e)))
+            ∙ each (OM.due D t h) (λ y. y)
           where
-            each : (d : Bool) → (T d → T (LM.due D t h))
+            each : (d : Bool) → (T d → T (OM.due D t h))
                 → map toNote (cond d (deliveryOf t x ∷ onStream s log) (onStream s log)) ≡ cond d
-                (record { at = t; bytes = LM.bytesOf h } ∷ notes s log) (notes s log)
+                (record { at = t; bytes = OM.bytesOf h } ∷ notes s log) (notes s log)
             each true f =
                 ap (λ y. record { at = t; bytes = y } ∷ notes s log)
                 (unfold heldIn in bytes (x .message .held) (x .message .confirmed) (f tt))

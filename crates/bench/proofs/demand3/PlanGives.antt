@@ -39,8 +39,8 @@ use Rattle.bench.proofs.demand3.SeenAfterOwnEvent.{Valid, not-both}
 use Rattle.bench.proofs.demand3.ThroughHistory.{Quiet, NoBook}
 use Rattle.node.specs.SetUp as SetUp
 use Rattle.wire.specs.Settings as wire
-use Rattle.one_stream.specs.Sendings as LS
-use Rattle.one_stream.specs.TwoM as LM
+use Rattle.one_stream.specs.Sendings as OS
+use Rattle.one_stream.specs.TwoM as OM
 
 -- ── setting up a stream ──
 -- the first slot of a stream, where a free slot was taken for one
@@ -263,7 +263,7 @@ alike-of s e f p q t =
         go false o t = absurd o
 
 -- the numbers of legal 2M settings fit
-fits : (s : Stream) (set : Settings) → T (isTwoMessage set) → T (legal s set) → (s .0 ≤ maxStream) × LM.Fit (toDelays set)
+fits : (s : Stream) (set : Settings) → T (isTwoMessage set) → T (legal s set) → (s .0 ≤ maxStream) × OM.Fit (toDelays set)
 unfolding legal
 fits s set two t = (
   leb→le (s .0) maxStream (and-l (leb (s .0) maxStream) (leb (set .role) 1) (and-l (leb (s .0) maxStream && leb (set .role) 1) classes t)),
@@ -393,20 +393,20 @@ module _ (plan : Plan) (ok : T (proper plan)) (s : Stream) where
       none z = unfold start in no-books z (allEntries plan)
 
   module _ (me : ℕ) (sender : T (isSender (slotAt s me b₀))) (two : T (isTwoMessage (slotAt s me b₀ .settings))) where
-    abbrev pub planned : LS.Delays
+    abbrev pub planned : OS.Delays
     planned = toDelays (slotAt s me b₀ .settings)
 
     me-used : T (slotAt s me b₀ .used)
     me-used = used-of (slotAt s me b₀) (inr sender)
 
-    fit-small : (s .0 ≤ maxStream) × LM.Fit planned
+    fit-small : (s .0 ≤ maxStream) × OM.Fit planned
     fit-small =
         let x = slotAt s me b₀ in
         let k = slot-kept s (moduleAt me b₀ .node) (start-kept me) in
         fits s (x .settings) two (subst (λ z. T (legal z (x .settings))) (stream-of-slot s (moduleAt me b₀ .node) me-used)
         (so (k .lawful (is-true (x .used) me-used))))
 
-    pub start-fits : LM.Fit planned
+    pub start-fits : OM.Fit planned
     start-fits = fit-small .1
 
     pub start-valid : Valid planned s me b₀

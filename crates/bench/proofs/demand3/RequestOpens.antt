@@ -24,17 +24,17 @@ use Rattle.bench.proofs.laws.ModuleAfterEvent.{size-step, countOf, coun
 use Rattle.bench.proofs.laws.BooksAfterEvent.{books-asked}
 use Rattle.bench.proofs.laws.FramesOfBooks.{AllFrames}
 use Rattle.bench.proofs.demand3.ModuleSeen.{notes, view, take-all}
-use Rattle.bench.proofs.demand3.SeenAfterOwnEvent.{Valid, receiversOf, lineOf}
-use Rattle.bench.proofs.demand3.SeenAfterOtherEvent.{asks-me, asks-short, asks-free, asked-slot, no-rows, open-line}
+use Rattle.bench.proofs.demand3.SeenAfterOwnEvent.{Valid, receiversOf, strandOf}
+use Rattle.bench.proofs.demand3.SeenAfterOtherEvent.{asks-me, asks-short, asks-free, asked-slot, no-rows, open-strand}
 use Rattle.bench.proofs.demand3.RulesSeen.{maySend, legal-data, legal-conf, legal-abort}
 use Rattle.bench.proofs.demand3.MessageKept.{Content, Sender, Track, send-back}
-use Rattle.one_stream.specs.Sendings as LS
-use Rattle.one_stream.specs.Classes as LC
-use Rattle.one_stream.proofs.Histories as LH
-use Rattle.one_stream.specs.TwoM as LM
+use Rattle.one_stream.specs.Sendings as OS
+use Rattle.one_stream.specs.Classes as OC
+use Rattle.one_stream.proofs.Histories as OH
+use Rattle.one_stream.specs.TwoM as OM
 
 -- what each module has delivered of the stream
-abbrev pub logsOf : Stream → Bench → ℕ → List LC.Note
+abbrev pub logsOf : Stream → Bench → ℕ → List OC.Note
 logsOf s b i = notes s (moduleAt i b .log)
 
 -- no frame of a new book was given out
@@ -48,7 +48,7 @@ new-content s p j b (theAbort q y) = λ t. absurd (none q (b .modules) t)
     none zero (m ∷ ms) t = t
     none (suc q) (m ∷ ms) t = none q ms t
 
-module _ (D : LS.Delays) (fit : LM.Fit D) (s : Stream) (me : ℕ) (p : List ℕ) (b : Bench) (v : Valid D s me b) (j : ℕ)
+module _ (D : OS.Delays) (fit : OM.Fit D) (s : Stream) (me : ℕ) (p : List ℕ) (b : Bench) (v : Valid D s me b) (j : ℕ)
     (t : T (isAccepted j s p b)) where
   abbrev b′ : Bench
   b′ = step b (asks j s p)
@@ -80,15 +80,15 @@ module _ (D : LS.Delays) (fit : LM.Fit D) (s : Stream) (me : ℕ) (p : List ℕ)
           let c2 = eqb→eq (slotAt s me b .settings .class) 2 (v .sender .1 .class) in
           omega arith)
 
-  -- a line that looks like the bench, whose invariant holds, with nothing that may be sent
-  pub open-track : (L : LH.Line (LM.twoM D)) (rows : List (List Frame)) → L .state .now ≡ countOf b
-      → L .state .receiver ≡ receiversOf D s me p b rows
-      → L .sender ≡ me → L .up ≡ isLive me b → T (not (L .hold)) → (a : Bool) (base : ℕ → List LC.Note)
-      → Inv D (LM.twoM D) (twoMWorks D fit) L a base
+  -- a strand that looks like the bench, whose invariant holds, with nothing that may be sent
+  pub open-track : (Z : OH.Strand (OM.twoM D)) (rows : List (List Frame)) → Z .state .now ≡ countOf b
+      → Z .state .receiver ≡ receiversOf D s me p b rows
+      → Z .sender ≡ me → Z .up ≡ isLive me b → T (not (Z .hold)) → (a : Bool) (base : ℕ → List OC.Note)
+      → Inv D (OM.twoM D) (twoMWorks D fit) Z a base
       → ((n : ℕ) (w : Which) → T (maySend b s (nth noBook n (booksOf s b)) w) → ⊥)
       → Track D fit s me (now b) p (logsOf s b) b′
   unfolding view
-  open-track L rows time recv sender up free a base inv shut =
+  open-track Z rows time recv sender up free a base inv shut =
       record {
         k = newBook j b;
         ks = booksOf s b;
@@ -104,18 +104,18 @@ module _ (D : LS.Delays) (fit : LM.Fit D) (s : Stream) (me : ℕ) (p : List ℕ)
         sender = new-sender;
         old = λ n w h. shut n w (send-back s b (asks j s p) (v .nodes) (nth noBook n (booksOf s b)) w h);
         a = false;
-        inv = subst (λ L. Inv D (LM.twoM D) (twoMWorks D fit) L false (logsOf s b)) (open-line D s me p b v j t L rows time recv sender up)
-            (subst (Inv D (LM.twoM D) (twoMWorks D fit) (LH.act (LM.twoM D) L (LH.opens p)) false)
-            (fun-ext (λ i. ap (λ (r : ℕ → LC.Receiver (LM.twoM D)). r i .log) recv))
-            (open-inv D (LM.twoM D) (twoMWorks D fit) L a base inv (subst T (sym up) me-lives) free p));
+        inv = subst (λ Z. Inv D (OM.twoM D) (twoMWorks D fit) Z false (logsOf s b)) (open-strand D s me p b v j t Z rows time recv sender up)
+            (subst (Inv D (OM.twoM D) (twoMWorks D fit) (OH.act (OM.twoM D) Z (OH.opens p)) false)
+            (fun-ext (λ i. ap (λ (r : ℕ → OC.Receiver (OM.twoM D)). r i .log) recv))
+            (open-inv D (OM.twoM D) (twoMWorks D fit) Z a base inv (subst T (sym up) me-lives) free p));
       }
 
 -- ── the next message of a stream ──
-module _ (D : LS.Delays) (fit : LM.Fit D) (s : Stream) (me : ℕ) (since : Moment) (p₀ : List ℕ) (base : ℕ → List LC.Note) (b : Bench)
+module _ (D : OS.Delays) (fit : OM.Fit D) (s : Stream) (me : ℕ) (since : Moment) (p₀ : List ℕ) (base : ℕ → List OC.Note) (b : Bench)
     (v : Valid D s me b)
     (x : Track D fit s me since p₀ base b) (j : ℕ) (p : List ℕ) (t : T (isAccepted j s p b)) where
-  abbrev line : LH.Line (LM.twoM D)
-  line = lineOf D s me p₀ b (x .k) (x .hold)
+  abbrev strand : OH.Strand (OM.twoM D)
+  strand = strandOf D s me p₀ b (x .k) (x .hold)
 
   pub sender-free : T (not (x .hold))
   sender-free =
@@ -124,14 +124,14 @@ module _ (D : LS.Delays) (fit : LM.Fit D) (s : Stream) (me : ℕ) (since : Momen
 
   shut-newest : (w : Which) → T (maySend b s (x .k) w) → ⊥
   shut-newest thePayload h =
-      closed-data D fit line (x .a) base (x .inv) (me-lives D fit s me p b v j t) sender-free tt (named all) true
+      closed-data D fit strand (x .a) base (x .inv) (me-lives D fit s me p b v j t) sender-free tt (named all) true
       (legal-data D s me p₀ b v (x .k) (x .own .sender) (x .hold) all h)
   shut-newest theConfirmation h =
-      closed-conf D fit line (x .a) base (x .inv) (me-lives D fit s me p b v j t) sender-free tt (named all) true
+      closed-conf D fit strand (x .a) base (x .inv) (me-lives D fit s me p b v j t) sender-free tt (named all) true
       (legal-conf D s me p₀ b v (x .k) (x .own .sender) (x .hold) all h)
   shut-newest (theAbort q y) h =
-      closed-code2 D (LM.twoM D) (twoMWorks D fit) line (x .a) base (x .inv) q y (named all) true
-      (past-all D (LM.twoM D) (twoMWorks D fit) line (x .a) base (x .inv) (me-lives D fit s me p b v j t) sender-free q)
+      closed-code2 D (OM.twoM D) (twoMWorks D fit) strand (x .a) base (x .inv) q y (named all) true
+      (past-all D (OM.twoM D) (twoMWorks D fit) strand (x .a) base (x .inv) (me-lives D fit s me p b v j t) sender-free q)
       (legal-abort D s me p₀ b v (x .k) (x .own .sender) (x .hold) (x .own .rows) q y all h)
 
   shut-all : (n : ℕ) (w : Which) → T (maySend b s (nth noBook n (x .k ∷ x .ks)) w) → ⊥
@@ -140,5 +140,5 @@ module _ (D : LS.Delays) (fit : LM.Fit D) (s : Stream) (me : ℕ) (since : Momen
 
   pub next-track : Track D fit s me (now b) p (logsOf s b) (step b (asks j s p))
   next-track =
-      open-track D fit s me p b v j t line (x .k .aborts) refl refl refl refl sender-free (x .a) base (x .inv)
+      open-track D fit s me p b v j t strand (x .k .aborts) refl refl refl refl sender-free (x .a) base (x .inv)
       (λ n w h. shut-all n w (subst (λ ks. T (maySend b s (nth noBook n ks) w)) (x .books) h))

@@ -18,11 +18,11 @@ use Rattle.bench.specs.Rules.{may, rule1, rule3, inTurn, inReach, within
 use Rattle.bench.proofs.laws.SlotAfterCall.{same-stream}
 use Rattle.bench.proofs.laws.ModuleAfterEvent.{countOf, asFunction, count-is}
 use Rattle.bench.proofs.demand3.ModuleSeen.{toSent, toFrame, toDelays, view}
-use Rattle.bench.proofs.demand3.SeenAfterOwnEvent.{TwoMessage, Valid, lineOf, lives, moves}
-use Rattle.one_stream.specs.Sendings as LS
-use Rattle.one_stream.specs.Frames as LF
-use Rattle.one_stream.specs.Classes as LC
-use Rattle.one_stream.specs.TwoM as LM
+use Rattle.bench.proofs.demand3.SeenAfterOwnEvent.{TwoMessage, Valid, strandOf, lives, moves}
+use Rattle.one_stream.specs.Sendings as OS
+use Rattle.one_stream.specs.Frames as OF
+use Rattle.one_stream.specs.Classes as OC
+use Rattle.one_stream.specs.TwoM as OM
 
 -- ── moments and sendings ──
 pub within-all : (R : ℕ) (from to : Moment) → T (within R from to) → (i : ℕ) → asFunction to i ≤ asFunction from i + R
@@ -32,39 +32,39 @@ within-all R (f ∷ fs) [] t i = absurd t
 within-all R (f ∷ fs) (n ∷ ns) t zero = leb→le n (f + R) (and-l (leb n (f + R)) (within R fs ns) t)
 within-all R (f ∷ fs) (n ∷ ns) t (suc i) = within-all R fs ns (and-r (leb n (f + R)) (within R fs ns) t) i
 
-fullness : (to : To) → LS.Fullness (named to) (isFull to)
+fullness : (to : To) → OS.Fullness (named to) (isFull to)
 fullness all = λ i. tt
 fullness (only l) = tt
 
-pub was-full : (f : Frame) → LS.Full (toSent (f .sendings)) → T (wasFull f)
+pub was-full : (f : Frame) → OS.Full (toSent (f .sendings)) → T (wasFull f)
 unfolding toSent
 was-full f = go (f .sendings)
   where
-    go : (d : Sendings) → LS.Full (toSent d) → T (elim d [ never ↦ false | sent a b c ↦ c ])
+    go : (d : Sendings) → OS.Full (toSent d) → T (elim d [ never ↦ false | sent a b c ↦ c ])
     go never t = t
     go (sent a b c) t = t
 
-pub full-was : (f : Frame) → T (wasFull f) → LS.Full (toSent (f .sendings))
+pub full-was : (f : Frame) → T (wasFull f) → OS.Full (toSent (f .sendings))
 unfolding toSent
 full-was f = go (f .sendings)
   where
-    go : (d : Sendings) → T (elim d [ never ↦ false | sent a b c ↦ c ]) → LS.Full (toSent d)
+    go : (d : Sendings) → T (elim d [ never ↦ false | sent a b c ↦ c ]) → OS.Full (toSent d)
     go never t = t
     go (sent a b c) t = t
 
-was-sent : (f : Frame) → LS.Some (toSent (f .sendings)) → T (wasSent f)
+was-sent : (f : Frame) → OS.Some (toSent (f .sendings)) → T (wasSent f)
 unfolding toSent
 was-sent f = go (f .sendings)
   where
-    go : (d : Sendings) → LS.Some (toSent d) → T (elim d [ never ↦ false | sent a b c ↦ true ])
+    go : (d : Sendings) → OS.Some (toSent d) → T (elim d [ never ↦ false | sent a b c ↦ true ])
     go never t = t
     go (sent a b c) t = t
 
-sent-was : (f : Frame) → T (wasSent f) → LS.Some (toSent (f .sendings))
+sent-was : (f : Frame) → T (wasSent f) → OS.Some (toSent (f .sendings))
 unfolding toSent
 sent-was f = go (f .sendings)
   where
-    go : (d : Sendings) → T (elim d [ never ↦ false | sent a b c ↦ true ]) → LS.Some (toSent d)
+    go : (d : Sendings) → T (elim d [ never ↦ false | sent a b c ↦ true ]) → OS.Some (toSent d)
     go never t = t
     go (sent a b c) t = t
 
@@ -85,7 +85,7 @@ module _ (b : Bench) (s : Stream) (k : Book) (w : Which) (t : T (maySend b s k w
   pub was-given : T (f .given)
   was-given = and-r (isLive (ownerOf w k) b) (f .given) (and-l (isLive (ownerOf w k) b && f .given) (not (wasFull f)) first-rule)
 
-  not-full : LS.Full (toSent (f .sendings)) → ⊥
+  not-full : OS.Full (toSent (f .sendings)) → ⊥
   not-full y = T-not (wasFull f) (and-r (isLive (ownerOf w k) b && f .given) (not (wasFull f)) first-rule) (was-full f y)
 
   in-turn : T (inTurn k w)
@@ -94,21 +94,21 @@ module _ (b : Bench) (s : Stream) (k : Book) (w : Which) (t : T (maySend b s k w
   in-reach : T (inReach (settingsOf s k b) k w (now b))
   in-reach = and-r (inTurn k w) (inReach (settingsOf s k b) k w (now b)) (and-r (rule1 b k w) (rule3 b s k w) t)
 
-module _ (D : LS.Delays) (s : Stream) (me : ℕ) (p : List ℕ) (b : Bench) (v : Valid D s me b) (k : Book) (sender : k .sender ≡ me)
+module _ (D : OS.Delays) (s : Stream) (me : ℕ) (p : List ℕ) (b : Bench) (v : Valid D s me b) (k : Book) (sender : k .sender ≡ me)
     (hold : Bool) where
   settings : TwoMessage D (settingsOf s k b)
   settings = subst (λ i. TwoMessage D (slotAt s i b .settings)) (sym sender) (v .sender .1)
 
   -- the numbers of the message's stream
-  number : (g : LS.Delays → ℕ) → g (toDelays (settingsOf s k b)) ≡ g D
+  number : (g : OS.Delays → ℕ) → g (toDelays (settingsOf s k b)) ≡ g D
   number g = ap g (settings .numbers)
 
   now-is : (i : ℕ) → asFunction (now b) i ≡ countOf b i
   now-is i = count-is i (b .modules)
 
   pub legal-data : (to : To) → T (maySend b s k thePayload)
-      → LC.Legal (LM.twoM D) D (lineOf D s me p b k hold .state) (LC.sendData (named to) (isFull to))
-  unfolding LC.Legal
+      → OC.Legal (OM.twoM D) D (strandOf D s me p b k hold .state) (OC.sendData (named to) (isFull to))
+  unfolding OC.Legal
   legal-data to t = (
     fullness to,
     not-full b s k thePayload t,
@@ -131,8 +131,8 @@ module _ (D : LS.Delays) (s : Stream) (me : ℕ) (p : List ℕ) (b : Bench) (v :
           go false n y = y
 
   pub legal-conf : (to : To) → T (maySend b s k theConfirmation)
-      → LC.Legal (LM.twoM D) D (lineOf D s me p b k hold .state) (LC.sendConf (named to) (isFull to))
-  unfolding LC.Legal
+      → OC.Legal (OM.twoM D) D (strandOf D s me p b k hold .state) (OC.sendConf (named to) (isFull to))
+  unfolding OC.Legal
   legal-conf to t = (
     fullness to,
     not-full b s k theConfirmation t,
@@ -141,15 +141,15 @@ module _ (D : LS.Delays) (s : Stream) (me : ℕ) (p : List ℕ) (b : Bench) (v :
   )
     where
       first-reach : (d : Sendings) → T (elim d [ never ↦ false | sent x y z ↦ within (settingsOf s k b .dc) x (now b) ])
-          → (i : ℕ) → countOf b i ≤ LS.first (toSent d) i + settingsOf s k b .dc
+          → (i : ℕ) → countOf b i ≤ OS.first (toSent d) i + settingsOf s k b .dc
       first-reach never h i = absurd h
       first-reach (sent x y z) h i = unfold toSent in omega (arith, within-all (settingsOf s k b .dc) x (now b) h i, now-is i)
 
   -- rows: an abort's owner receives the stream
   module _ (rows : (q : ℕ) → T (not (isReceiver (slotAt s q b))) → nth [] q (k .aborts) ≡ []) where
     pub legal-abort : (q y : ℕ) (to : To) → T (maySend b s k (theAbort q y))
-        → LC.Legal (LM.twoM D) D (lineOf D s me p b k hold .state) (LC.sendCode2 q y (named to) (isFull to))
-    unfolding LC.Legal view
+        → OC.Legal (OM.twoM D) D (strandOf D s me p b k hold .state) (OC.sendCode2 q y (named to) (isFull to))
+    unfolding OC.Legal view
     legal-abort q y to t = (
       fullness to,
       both (isLive q b) (isReceiver (slotAt s q b)) (owner-lives b s k (theAbort q y) t) receiver,
@@ -170,9 +170,9 @@ module _ (D : LS.Delays) (s : Stream) (me : ℕ) (p : List ℕ) (b : Bench) (v :
             go false h = absurd (h tt)
 
         frame-at : (y : ℕ) (fs : List Frame) → T (nth (pendingSince []) y fs .given)
-            → (LS.Full (toSent (nth (pendingSince []) y fs .sendings)) → ⊥)
+            → (OS.Full (toSent (nth (pendingSince []) y fs .sendings)) → ⊥)
             → T (within (settingsOf s k b .ra) (nth (pendingSince []) y fs .since) (now b))
-            → LF.At (LF.MaySend D (countOf b)) y (map toFrame fs)
+            → OF.At (OF.MaySend D (countOf b)) y (map toFrame fs)
         frame-at y [] g n r = absurd g
         frame-at zero (f ∷ fs) g n r = unfold toFrame in
             record {
@@ -216,13 +216,13 @@ open-or true b t l = t
 open-or false b t l = absurd l
 
 frame-served : (R : ℕ) (t : Moment) (f : Frame) (d : Sendings) → T (elim d [ never ↦ false | sent a b c ↦ true ] || within R (f .since) t)
-    → (LS.Some (toSent d) → ⊥) → (i : ℕ) → asFunction t i ≤ asFunction (f .since) i + R
+    → (OS.Some (toSent d) → ⊥) → (i : ℕ) → asFunction t i ≤ asFunction (f .since) i + R
 unfolding toSent
 frame-served R t f never h n i = within-all R (f .since) t h i
 frame-served R t f (sent a b c) h n i = absurd (n tt)
 
-frames-served : (D : LS.Delays) (R : ℕ) → R ≡ D .ra → (t : Moment) (c : ℕ → ℕ) → ((i : ℕ) → asFunction t i ≡ c i) → (fs : List Frame)
-    → T (every (λ f. wasSent f || within R (f .since) t) fs) → LF.Each (LC.Served (LM.twoM D) D c) (map toFrame fs)
+frames-served : (D : OS.Delays) (R : ℕ) → R ≡ D .ra → (t : Moment) (c : ℕ → ℕ) → ((i : ℕ) → asFunction t i ≡ c i) → (fs : List Frame)
+    → T (every (λ f. wasSent f || within R (f .since) t) fs) → OF.Each (OC.Served (OM.twoM D) D c) (map toFrame fs)
 unfolding toFrame
 frames-served D R e t c now [] h = tt
 frames-served D R e t c now (f ∷ fs) h =
@@ -233,13 +233,13 @@ frames-served D R e t c now (f ∷ fs) h =
           (and-r here rest h),
     )
 
-module _ (D : LS.Delays) (s : Stream) (me : ℕ) (p : List ℕ) (b : Bench) (v : Valid D s me b) (k : Book) (sender : k .sender ≡ me)
+module _ (D : OS.Delays) (s : Stream) (me : ℕ) (p : List ℕ) (b : Bench) (v : Valid D s me b) (k : Book) (sender : k .sender ≡ me)
     (hold : Bool)
     (ks : List Book) (books : booksOf s b ≡ k ∷ ks) where
-  pub legal-tick : T (may b ticks) → LC.Legal (LM.twoM D) D (lineOf D s me p b k hold .state) (LC.tick (lives D s me p b))
-  unfolding LC.Legal view may
+  pub legal-tick : T (may b ticks) → OC.Legal (OM.twoM D) D (strandOf D s me p b k hold .state) (OC.tick (lives D s me p b))
+  unfolding OC.Legal view may
   legal-tick h i l =
-      frames-served D (settingsOf s k b .ra) (number D s me p b v k sender hold (λ d. d .ra)) t (LS.move (lives D s me p b) (countOf b))
+      frames-served D (settingsOf s k b .ra) (number D s me p b v k sender hold (λ d. d .ra)) t (OS.move (lives D s me p b) (countOf b))
       (λ j. count-is j (step b ticks .modules) ∙ sym (ap (λ (c : ℕ → ℕ). c j) (moves D s me p b))) (nth [] i (k .aborts))
       (open-or (isLive i b) (every (λ f. wasSent f || within (settingsOf s k b .ra) (f .since) t) (nth [] i (k .aborts))) served-row
       (and-l (isLive i b) (isReceiver (slotAt s i b)) l))

@@ -1,4 +1,4 @@
--- The line of a 2M stream at a death, at events of other streams, and at an accepted request.
+-- The strand of a 2M stream at a death, at events of other streams, and at an accepted request.
 use Prim.Native.Nat.{ℕ, zero, suc, _≤_}
 use native.Mathlib.Omega.{arith}
 use mathlib.Core.Path.{_≡_, refl, ap, sym, subst, _∙_, fun-ext}
@@ -22,23 +22,23 @@ use Rattle.bench.specs.SetUp.{isDone}
 use Rattle.bench.proofs.laws.SlotAfterCall.{slot-kept, asking, accepts, ask-own, ask-reply, ask-counter}
 use Rattle.bench.proofs.laws.ModuleAfterEvent.{module-step, Elsewhere, untouched-step, countOf, asFunction, count-is}
 use Rattle.bench.proofs.demand3.ModuleSeen.{toSent, notes, heldIn, viewOf, view, Looks, looks, view-looks}
-use Rattle.bench.proofs.demand3.SeenAfterOwnEvent.{Valid, not-both, receiversOf, made, lineOf, made-path}
+use Rattle.bench.proofs.demand3.SeenAfterOwnEvent.{Valid, not-both, receiversOf, made, strandOf, made-path}
 use Rattle.wire.specs.Settings as wire
-use Rattle.one_stream.specs.Sendings as LS
-use Rattle.one_stream.specs.Classes as LC
-use Rattle.one_stream.proofs.Histories as LH
-use Rattle.one_stream.specs.TwoM as LM
+use Rattle.one_stream.specs.Sendings as OS
+use Rattle.one_stream.specs.Classes as OC
+use Rattle.one_stream.proofs.Histories as OH
+use Rattle.one_stream.specs.TwoM as OM
 
-module _ (D : LS.Delays) (s : Stream) (me : ℕ) (p : List ℕ) (b : Bench) where
+module _ (D : OS.Delays) (s : Stream) (me : ℕ) (p : List ℕ) (b : Bench) where
   -- ── a death ──
   dead-view : (j i : ℕ) (fs : List Frame)
-      → view D s (moduleAt i (step b (dies j))) fs ≡ cond (eqb i j) (LC.dead (LM.twoM D) (view D s (moduleAt i b) fs))
+      → view D s (moduleAt i (step b (dies j))) fs ≡ cond (eqb i j) (OC.dead (OM.twoM D) (view D s (moduleAt i b) fs))
       (view D s (moduleAt i b) fs)
-  unfolding view LC.dead
+  unfolding view OC.dead
   dead-view j i fs = ap (λ (m : Module). view D s m fs) (module-step b (dies j) i) ∙ go (eqb i j)
     where
       go : (o : Bool)
-          → view D s (cond o (dead (moduleAt i b)) (moduleAt i b)) fs ≡ cond o (LC.dead (LM.twoM D) (view D s (moduleAt i b) fs))
+          → view D s (cond o (dead (moduleAt i b)) (moduleAt i b)) fs ≡ cond o (OC.dead (OM.twoM D) (view D s (moduleAt i b) fs))
           (view D s (moduleAt i b) fs)
       go true = refl
       go false = refl
@@ -50,36 +50,36 @@ module _ (D : LS.Delays) (s : Stream) (me : ℕ) (p : List ℕ) (b : Bench) wher
   dead-node j i = ap (λ (m : Module). m .node) (module-step b (dies j) i) ∙ either-way (λ (m : Module). m .node) (eqb i j) refl refl
 
   module _ (k : Book) (hold : Bool) (j : ℕ) where
-    -- the message's line, but for the counts, the receivers and whether the sender lives
-    abbrev with-book : (ℕ → ℕ) → (ℕ → LC.Receiver (LM.twoM D)) → (up : Bool) → LH.Line (LM.twoM D)
+    -- the message's strand, but for the counts, the receivers and whether the sender lives
+    abbrev with-book : (ℕ → ℕ) → (ℕ → OC.Receiver (OM.twoM D)) → (up : Bool) → OH.Strand (OM.twoM D)
     with-book counts r up =
         made D s me p counts (asFunction (k .payloadFrame .since)) (toSent (k .payloadFrame .sendings)) (toSent (k .confirmation .sendings)) r up hold
 
-    die-line : (up : Bool) → cond (eqb me j) false (isLive me b) ≡ up
-        → with-book (countOf b) (LC.step (LM.twoM D) (lineOf D s me p b k hold .state) (LC.die j) .receiver) up
-        ≡ lineOf D s me p (step b (dies j)) k hold
-    unfolding LC.step
-    die-line up e =
+    die-strand : (up : Bool) → cond (eqb me j) false (isLive me b) ≡ up
+        → with-book (countOf b) (OC.step (OM.twoM D) (strandOf D s me p b k hold .state) (OC.die j) .receiver) up
+        ≡ strandOf D s me p (step b (dies j)) k hold
+    unfolding OC.step
+    die-strand up e =
         made-path D s me p (asFunction (k .payloadFrame .since)) (fun-ext (λ i. sym (ap (λ (n : Node). n .counter) (dead-node j i)))) refl refl
         (fun-ext (λ i. sym (dead-view j i (nth [] i (k .aborts))))) (sym (dead-live j me ∙ e)) refl
 
     -- another module dies
-    pub die-other-line : (eqb me j ≡ false)
-        → LH.act (LM.twoM D) (lineOf D s me p b k hold) (LH.on (LC.die j)) ≡ lineOf D s me p (step b (dies j)) k hold
-    unfolding LH.act LC.step
-    die-other-line e = die-line (isLive me b) (ap (λ o. cond o false (isLive me b)) e)
+    pub die-other-strand : (eqb me j ≡ false)
+        → OH.act (OM.twoM D) (strandOf D s me p b k hold) (OH.on (OC.die j)) ≡ strandOf D s me p (step b (dies j)) k hold
+    unfolding OH.act OC.step
+    die-other-strand e = die-strand (isLive me b) (ap (λ o. cond o false (isLive me b)) e)
 
     -- the sender dies
-    pub die-own-line : (eqb me j ≡ true)
-        → LH.act (LM.twoM D) (LH.act (LM.twoM D) (lineOf D s me p b k hold) (LH.on (LC.die j))) LH.senderDies
-        ≡ lineOf D s me p (step b (dies j)) k hold
-    unfolding LH.act LC.step
-    die-own-line e = die-line false (ap (λ o. cond o false (isLive me b)) e)
+    pub die-own-strand : (eqb me j ≡ true)
+        → OH.act (OM.twoM D) (OH.act (OM.twoM D) (strandOf D s me p b k hold) (OH.on (OC.die j))) OH.senderDies
+        ≡ strandOf D s me p (step b (dies j)) k hold
+    unfolding OH.act OC.step
+    die-own-strand e = die-strand false (ap (λ o. cond o false (isLive me b)) e)
 
   -- ── events of other streams ──
-  pub else-line : (e : Event) → Elsewhere s b e → (k : Book) (hold : Bool) → lineOf D s me p b k hold ≡ lineOf D s me p (step b e) k hold
+  pub else-strand : (e : Event) → Elsewhere s b e → (k : Book) (hold : Bool) → strandOf D s me p b k hold ≡ strandOf D s me p (step b e) k hold
   unfolding view
-  else-line e els k hold =
+  else-strand e els k hold =
       made-path D s me p (asFunction (k .payloadFrame .since)) (fun-ext (λ i. sym (untouched-step s b e els i .counter))) refl refl
       (fun-ext (λ i. same-view i (nth [] i (k .aborts)))) (sym (untouched-step s b e els me .live)) refl
     where
@@ -166,7 +166,7 @@ module _ (D : LS.Delays) (s : Stream) (me : ℕ) (p : List ℕ) (b : Bench) wher
         (λ y. (refl, refl, ask-counter s p (moduleAt i b .node))) (λ y. (refl, refl, refl)))
 
     asks-view : (i : ℕ) (fs : List Frame)
-        → LH.withoutFrames (LM.twoM D) (view D s (moduleAt i b) fs) ≡ view D s (moduleAt i (step b (asks j s p))) []
+        → OH.withoutFrames (OM.twoM D) (view D s (moduleAt i b) fs) ≡ view D s (moduleAt i (step b (asks j s p))) []
     unfolding view
     asks-view i fs =
         let x = slotAt s i b in
@@ -179,19 +179,19 @@ module _ (D : LS.Delays) (s : Stream) (me : ℕ) (p : List ℕ) (b : Bench) wher
     no-rows zero (m ∷ ms) = refl
     no-rows (suc i) (m ∷ ms) = no-rows i ms
 
-    -- a line that looks like the bench before, opened, looks like the bench after
-    pub open-line : (L : LH.Line (LM.twoM D)) (rows : List (List Frame)) → L .state .now ≡ countOf b
-        → L .state .receiver ≡ receiversOf D s me p b rows
-        → L .sender ≡ me → L .up ≡ isLive me b
-        → LH.act (LM.twoM D) L (LH.opens p) ≡ lineOf D s me p (step b (asks j s p)) (newBook j b) true
-    unfolding LH.act toSent
-    open-line L rows time recv sender up = λ i. record {
+    -- a strand that looks like the bench before, opened, looks like the bench after
+    pub open-strand : (Z : OH.Strand (OM.twoM D)) (rows : List (List Frame)) → Z .state .now ≡ countOf b
+        → Z .state .receiver ≡ receiversOf D s me p b rows
+        → Z .sender ≡ me → Z .up ≡ isLive me b
+        → OH.act (OM.twoM D) Z (OH.opens p) ≡ strandOf D s me p (step b (asks j s p)) (newBook j b) true
+    unfolding OH.act toSent
+    open-strand Z rows time recv sender up = λ i. record {
       state = record {
         now = (time ∙ fun-ext (λ q. sym (asks-same q .2))) i;
         requested = (time ∙ fun-ext (λ q. sym (count-is q (b .modules)))) i;
         message = p;
-        dataSent = LS.never;
-        confSent = LS.never;
+        dataSent = OS.never;
+        confSent = OS.never;
         receiver = receivers i;
       };
       sender = sender i;
@@ -200,8 +200,8 @@ module _ (D : LS.Delays) (s : Stream) (me : ℕ) (p : List ℕ) (b : Bench) wher
       hold = true;
     }
       where
-        receivers : _≡_ {A = ℕ → LC.Receiver (LM.twoM D)} (λ q. LH.withoutFrames (LM.twoM D) (L .state .receiver q))
+        receivers : _≡_ {A = ℕ → OC.Receiver (OM.twoM D)} (λ q. OH.withoutFrames (OM.twoM D) (Z .state .receiver q))
             (receiversOf D s me p (step b (asks j s p)) (newBook j b .aborts))
         receivers =
-            ap {B = ℕ → LC.Receiver (LM.twoM D)} (λ (r : ℕ → LC.Receiver (LM.twoM D)) q. LH.withoutFrames (LM.twoM D) (r q)) recv
+            ap {B = ℕ → OC.Receiver (OM.twoM D)} (λ (r : ℕ → OC.Receiver (OM.twoM D)) q. OH.withoutFrames (OM.twoM D) (r q)) recv
             ∙ fun-ext (λ q. asks-view q (nth [] q rows) ∙ ap (view D s (moduleAt q (step b (asks j s p)))) (sym (no-rows q (b .modules))))

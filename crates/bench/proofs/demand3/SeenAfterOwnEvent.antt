@@ -1,4 +1,4 @@
--- The line of a 2M stream follows the bench: a tick, a sending of its newest message, giving out, a death.
+-- The strand of a 2M stream follows the bench: a tick, a sending of its newest message, giving out, a death.
 use Prim.Native.Nat.{ℕ, zero, suc, _+_, _-_, _≤_}
 use native.Mathlib.Omega.{arith}
 use mathlib.Core.Path.{_≡_, refl, ap, sym, subst, _∙_, fun-ext}
@@ -40,21 +40,21 @@ use Rattle.bench.proofs.demand3.ModuleSeen.{toSent, toFrame, toDelays, 
 use Rattle.bench.proofs.demand3.ModuleSeen.{heard-conf, heard-abort, ticked-looks, ticked-log}
 use Rattle.bench.proofs.demand3.StreamSeen.{New, data-view, conf-view, abort-view, tick-view, row-enter, view-entered, heard-looks, heard-live}
 use Rattle.bench.proofs.demand3.StreamSeen.{heard-log}
-use Rattle.one_stream.specs.Sendings as LS
-use Rattle.one_stream.specs.Frames as LF
-use Rattle.one_stream.specs.Classes as LC
-use Rattle.one_stream.proofs.Histories as LH
-use Rattle.one_stream.specs.TwoM as LM
+use Rattle.one_stream.specs.Sendings as OS
+use Rattle.one_stream.specs.Frames as OF
+use Rattle.one_stream.specs.Classes as OC
+use Rattle.one_stream.proofs.Histories as OH
+use Rattle.one_stream.specs.TwoM as OM
 use Rattle.wire.specs.Settings as wire
 
 -- ── a stream of the bench ──
 -- the settings of a 2M slot of the stream
-pub record TwoMessage (D : LS.Delays) (set : Settings) : Type 0 where
+pub record TwoMessage (D : OS.Delays) (set : Settings) : Type 0 where
   pub class : T (isTwoMessage set)
   pub numbers : toDelays set ≡ D
 
 -- what setting up gave a 2M stream, and what every event keeps
-pub record Valid (D : LS.Delays) (s : Stream) (me : ℕ) (b : Bench) : Type 0 where
+pub record Valid (D : OS.Delays) (s : Stream) (me : ℕ) (b : Bench) : Type 0 where
   pub nodes : (i : ℕ) → Kept (moduleAt i b .node)
   pub small : s .0 ≤ maxStream
   pub receivers : (i : ℕ) → T (isReceiver (slotAt s i b)) → TwoMessage D (slotAt s i b .settings)
@@ -63,7 +63,7 @@ pub record Valid (D : LS.Delays) (s : Stream) (me : ℕ) (b : Bench) : Type 0 wh
   pub ledger : T (listed s (b .ledgers))
   pub labels : Labels b
 
-pub valid-step : (D : LS.Delays) (s : Stream) (me : ℕ) (b : Bench) (e : Event) → Valid D s me b → Valid D s me (step b e)
+pub valid-step : (D : OS.Delays) (s : Stream) (me : ℕ) (b : Bench) (e : Event) → Valid D s me b → Valid D s me (step b e)
 valid-step D s me b e v =
     record {
       nodes = λ i. moved-step s b e i (v .nodes i) .kept (v .nodes i);
@@ -93,15 +93,15 @@ not-plain s c h {id} e t =
     let code = ap codeOf e in
     omega arith
 
--- ── the line ──
-module _ (D : LS.Delays) (s : Stream) (me : ℕ) (p : List ℕ) where
-  abbrev pub Line : Type 0
-  Line = LH.Line (LM.twoM D)
+-- ── the strand ──
+module _ (D : OS.Delays) (s : Stream) (me : ℕ) (p : List ℕ) where
+  abbrev pub Strand : Type 0
+  Strand = OH.Strand (OM.twoM D)
 
-  abbrev pub receiversOf : Bench → List (List Frame) → ℕ → LC.Receiver (LM.twoM D)
+  abbrev pub receiversOf : Bench → List (List Frame) → ℕ → OC.Receiver (OM.twoM D)
   receiversOf b rows i = view D s (moduleAt i b) (nth [] i rows)
 
-  abbrev pub made : (now requested : ℕ → ℕ) (d c : LS.Sent) → (ℕ → LC.Receiver (LM.twoM D)) → (up hold : Bool) → Line
+  abbrev pub made : (now requested : ℕ → ℕ) (d c : OS.Sent) → (ℕ → OC.Receiver (OM.twoM D)) → (up hold : Bool) → Strand
   made now requested d c r up hold =
       record {
         state = record { now = now; requested = requested; message = p; dataSent = d; confSent = c; receiver = r };
@@ -112,12 +112,12 @@ module _ (D : LS.Delays) (s : Stream) (me : ℕ) (p : List ℕ) where
       }
 
   -- the hold is the sender's while it lives
-  abbrev pub lineOf : Bench → Book → (hold : Bool) → Line
-  lineOf b k hold =
+  abbrev pub strandOf : Bench → Book → (hold : Bool) → Strand
+  strandOf b k hold =
       made (countOf b) (asFunction (k .payloadFrame .since)) (toSent (k .payloadFrame .sendings)) (toSent (k .confirmation .sendings))
       (receiversOf b (k .aborts)) (isLive me b) hold
 
-  pub made-path : {now now′ : ℕ → ℕ} (requested : ℕ → ℕ) {d d′ c c′ : LS.Sent} {r r′ : ℕ → LC.Receiver (LM.twoM D)}
+  pub made-path : {now now′ : ℕ → ℕ} (requested : ℕ → ℕ) {d d′ c c′ : OS.Sent} {r r′ : ℕ → OC.Receiver (OM.twoM D)}
       {up up′ hold hold′ : Bool}
       → now ≡ now′ → d ≡ d′ → c ≡ c′ → r ≡ r′ → up ≡ up′ → hold ≡ hold′
       → made now requested d c r up hold ≡ made now′ requested d′ c′ r′ up′ hold′
@@ -126,17 +126,17 @@ module _ (D : LS.Delays) (s : Stream) (me : ℕ) (p : List ℕ) where
   -- ── the views after an event ──
   module _ (b b′ : Bench) (rows : List (List Frame)) (size : length rows ≡ length (b .modules))
       (size′ : length (b′ .modules) ≡ length (b .modules)) where
-    after-view : (i : ℕ) (m′ : Module) {h′ : LM.Slot} {p′ : Bool} {log : List LC.Note} → (let x = slotAt s i b in
+    after-view : (i : ℕ) (m′ : Module) {h′ : OM.Slot} {p′ : Bool} {log : List OC.Note} → (let x = slotAt s i b in
         moduleAt i b′ ≡ m′ → Looks (isReceiver x) h′ p′ (slotOf s (m′ .node)) → m′ .live ≡ isLive i b → notes s (m′ .log) ≡ log
         → view D s (moduleAt i b′) (nth [] i (enter (now b′) s (b .modules) (b′ .modules) rows))
         ≡ viewOf D (isLive i b) (isReceiver x) h′ p′
-        (cond (p′ && not (x .pending .abort)) (LF.newFrame (countOf b′) [] ∷ map toFrame (nth [] i rows)) (map toFrame (nth [] i rows))) log)
+        (cond (p′ && not (x .pending .abort)) (OF.newFrame (countOf b′) [] ∷ map toFrame (nth [] i rows)) (map toFrame (nth [] i rows))) log)
     after-view i m′ {h′} {p′} {log} e looks live logs =
         ap (view D s (moduleAt i b′)) (row-enter (now b′) s (b .modules) (b′ .modules) rows size size′ i)
         ∙ (ap (λ m. view D s m (cond (becamePending s (moduleAt i b) m) (pendingSince (now b′) ∷ nth [] i rows) (nth [] i rows))) e
         ∙ (view-entered D s (now b′) (moduleAt i b) m′ (nth [] i rows) looks live logs
         ∙ ap (λ t. viewOf D (isLive i b) (isReceiver (slotAt s i b)) h′ p′
-        (cond (p′ && not (slotAt s i b .pending .abort)) (LF.newFrame t [] ∷ map toFrame (nth [] i rows)) (map toFrame (nth [] i rows))) log)
+        (cond (p′ && not (slotAt s i b .pending .abort)) (OF.newFrame t [] ∷ map toFrame (nth [] i rows)) (map toFrame (nth [] i rows))) log)
         (fun-ext (λ j. count-is j (b′ .modules)))))
 
   abbrev pub lives : Bench → ℕ → Bool
@@ -150,7 +150,7 @@ module _ (D : LS.Delays) (s : Stream) (me : ℕ) (p : List ℕ) where
       go true = refl
       go false = refl
 
-  tick-count : (m : Module) → LS.move (λ i. m .live) (λ i. m .node .counter) 0 ≡ ticked unbounded m .node .counter
+  tick-count : (m : Module) → OS.move (λ i. m .live) (λ i. m .node .counter) 0 ≡ ticked unbounded m .node .counter
   tick-count m = go (m .live)
     where
       go : (l : Bool) → cond l (suc (m .node .counter)) (m .node .counter)
@@ -158,14 +158,14 @@ module _ (D : LS.Delays) (s : Stream) (me : ℕ) (p : List ℕ) where
       go true = sym (tick-counter (m .node) ∙ add-one (m .node .counter))
       go false = refl
 
-  pub moves : (b : Bench) → LS.move (lives b) (countOf b) ≡ countOf (step b ticks)
+  pub moves : (b : Bench) → OS.move (lives b) (countOf b) ≡ countOf (step b ticks)
   moves b = fun-ext (λ i. tick-count (moduleAt i b) ∙ sym (ap (λ (m : Module). m .node .counter) (module-step b ticks i)))
 
   module _ (b : Bench) (v : Valid D s me b) where
     pub tick-looks : (i : ℕ) → (let m = moduleAt i b in let x = slotAt s i b in let h = heldIn (x .message) in let r = isReceiver x in
         let t = m .node .counter + 1 in let p = x .pending .abort in
-        Looks r (cond (m .live) (cond r (cond (LM.late D t h || LM.due D t h) LM.empty h) h) h)
-        (cond (m .live) (cond r (p || LM.late D t h) p) p)
+        Looks r (cond (m .live) (cond r (cond (OM.late D t h || OM.due D t h) OM.empty h) h) h)
+        (cond (m .live) (cond r (p || OM.late D t h) p) p)
         (slotOf s (ticked unbounded m .node)))
     tick-looks i = go (m .live)
       where
@@ -175,7 +175,7 @@ module _ (D : LS.Delays) (s : Stream) (me : ℕ) (p : List ℕ) where
         x : Slot
         x = slotAt s i b
 
-        h : LM.Slot
+        h : OM.Slot
         h = heldIn (x .message)
 
         r : Bool
@@ -185,8 +185,8 @@ module _ (D : LS.Delays) (s : Stream) (me : ℕ) (p : List ℕ) where
         t = m .node .counter + 1
 
         go : (l : Bool)
-            → Looks r (cond l (cond r (cond (LM.late D t h || LM.due D t h) LM.empty h) h) h)
-            (cond l (cond r (x .pending .abort || LM.late D t h) (x .pending .abort)) (x .pending .abort))
+            → Looks r (cond l (cond r (cond (OM.late D t h || OM.due D t h) OM.empty h) h) h)
+            (cond l (cond r (x .pending .abort || OM.late D t h) (x .pending .abort)) (x .pending .abort))
             (slotOf s (cond l (tickedLive m) m .node))
         go true = ticked-looks s (v .small) (m .node) (v .nodes i) (λ y. v .receivers i y .class) D (λ y. v .receivers i y .numbers)
         go false = looks x
@@ -194,7 +194,7 @@ module _ (D : LS.Delays) (s : Stream) (me : ℕ) (p : List ℕ) where
     tick-log : (i : ℕ) → (let m = moduleAt i b in let x = slotAt s i b in let h = heldIn (x .message) in
         let r = isReceiver x in let t = m .node .counter + 1 in
         notes s (ticked unbounded m .log)
-        ≡ cond (m .live) (cond (r && LM.due D t h) (record { at = t; bytes = LM.bytesOf h } ∷ notes s (m .log)) (notes s (m .log))) (notes s (m .log)))
+        ≡ cond (m .live) (cond (r && OM.due D t h) (record { at = t; bytes = OM.bytesOf h } ∷ notes s (m .log)) (notes s (m .log))) (notes s (m .log)))
     tick-log i = go (m .live)
       where
         m : Module
@@ -203,22 +203,22 @@ module _ (D : LS.Delays) (s : Stream) (me : ℕ) (p : List ℕ) where
         x : Slot
         x = slotAt s i b
 
-        h : LM.Slot
+        h : OM.Slot
         h = heldIn (x .message)
 
         t : ℕ
         t = m .node .counter + 1
 
         go : (l : Bool) → notes s (cond l (tickedLive m) m .log)
-            ≡ cond l (cond (isReceiver x && LM.due D t h) (record { at = t; bytes = LM.bytesOf h } ∷ notes s (m .log))
+            ≡ cond l (cond (isReceiver x && OM.due D t h) (record { at = t; bytes = OM.bytesOf h } ∷ notes s (m .log))
             (notes s (m .log))) (notes s (m .log))
         go true = ticked-log s (v .small) (m .node) (v .nodes i) (λ y. v .receivers i y .class) D (λ y. v .receivers i y .numbers) (m .log)
         go false = refl
 
     module _ (k : Book) (size : length (k .aborts) ≡ length (b .modules)) where
-      tick-receiver : (i : ℕ) → LC.step (LM.twoM D) (lineOf b k true .state) (LC.tick (lives b)) .receiver i
+      tick-receiver : (i : ℕ) → OC.step (OM.twoM D) (strandOf b k true .state) (OC.tick (lives b)) .receiver i
           ≡ receiversOf (step b ticks) (entering s (b .modules) (step b ticks .modules) k .aborts) i
-      unfolding LC.step view
+      unfolding OC.step view
       tick-receiver i =
           let m = moduleAt i b in
           let x = slotAt s i b in
@@ -228,14 +228,14 @@ module _ (D : LS.Delays) (s : Stream) (me : ℕ) (p : List ℕ) where
           sym (after-view b (step b ticks) (k .aborts) size (size-step b ticks) i (ticked unbounded m) (module-step b ticks i)
           (tick-looks i) (tick-live m) (tick-log i)
           ∙ (tick-view D (m .live) (isReceiver x) h (x .pending .abort) fs (notes s (m .log)) (countOf (step b ticks)) (m .node .counter + 1)
-          ∙ (ap (λ t. cond ((m .live && isReceiver x) && m .live) (LC.ticked (LM.twoM D) t (countOf (step b ticks)) seen) seen) (add-one (m .node .counter))
-          ∙ ap (λ c. cond ((m .live && isReceiver x) && m .live) (LC.ticked (LM.twoM D) (suc (m .node .counter)) c seen) seen) (sym (moves b)))))
+          ∙ (ap (λ t. cond ((m .live && isReceiver x) && m .live) (OC.ticked (OM.twoM D) t (countOf (step b ticks)) seen) seen) (add-one (m .node .counter))
+          ∙ ap (λ c. cond ((m .live && isReceiver x) && m .live) (OC.ticked (OM.twoM D) (suc (m .node .counter)) c seen) seen) (sym (moves b)))))
 
-      pub tick-line : (hold : Bool) → LH.act (LM.twoM D) (lineOf b k hold) (LH.ticks (lives b))
-          ≡ lineOf (step b ticks) (entering s (b .modules) (step b ticks .modules) k)
-          (hold && not (ltb (D .rd + D .dd + D .e) (LS.move (lives b) (countOf b) me - asFunction (k .payloadFrame .since) me)))
-      unfolding LH.act LC.step
-      tick-line hold =
+      pub tick-strand : (hold : Bool) → OH.act (OM.twoM D) (strandOf b k hold) (OH.ticks (lives b))
+          ≡ strandOf (step b ticks) (entering s (b .modules) (step b ticks .modules) k)
+          (hold && not (ltb (D .rd + D .dd + D .e) (OS.move (lives b) (countOf b) me - asFunction (k .payloadFrame .since) me)))
+      unfolding OH.act OC.step
+      tick-strand hold =
           made-path (asFunction (k .payloadFrame .since)) (moves b) refl refl (fun-ext tick-receiver)
           (sym (ap (λ (m : Module). m .live) (module-step b ticks me) ∙ tick-live (moduleAt me b))) refl
 
@@ -272,10 +272,10 @@ module _ (D : LS.Delays) (s : Stream) (me : ℕ) (p : List ℕ) where
     pub live-sent : (w : Which) (i : ℕ) → isLive i b ≡ isLive i (sentTo w)
     live-sent w i = sym (ap (λ (m : Module). m .live) (module-sent w i) ∙ heard-live (frameOf w k) (moduleAt i b) (hearsIt w i))
 
-    sent-again : (d : Sendings) → LS.resend (countOf b) (isFull to) (toSent d) ≡ toSent (sentAgain (now b) (isFull to) d)
+    sent-again : (d : Sendings) → OS.resend (countOf b) (isFull to) (toSent d) ≡ toSent (sentAgain (now b) (isFull to) d)
     unfolding toSent
-    sent-again never = ap (λ c. LS.sent c c (isFull to)) (fun-ext (λ i. sym (count-is i (b .modules))))
-    sent-again (sent x y g) = ap (λ c. LS.sent (asFunction x) c (isFull to)) (fun-ext (λ i. sym (count-is i (b .modules))))
+    sent-again never = ap (λ c. OS.sent c c (isFull to)) (fun-ext (λ i. sym (count-is i (b .modules))))
+    sent-again (sent x y g) = ap (λ c. OS.sent (asFunction x) c (isFull to)) (fun-ext (λ i. sym (count-is i (b .modules))))
 
     -- the sender's own module does not receive the stream
     own-no-receiver : k .sender ≡ me → (i : ℕ) → T (eqb i (k .sender)) → T (not (isReceiver (slotAt s i b)))
@@ -290,16 +290,16 @@ module _ (D : LS.Delays) (s : Stream) (me : ℕ) (p : List ℕ) where
     module _ (sender : k .sender ≡ me) (size : length (k .aborts) ≡ length (b .modules)) where
       -- data
       module _ (id : k .payloadFrame .id ≡ idOf s 0) (bytes : k .payloadFrame .payload ≡ p) (short : length p ≤ 8) where
-        data-receiver : (i : ℕ) → LC.step (LM.twoM D) (lineOf b k true .state) (LC.sendData (named to) (isFull to)) .receiver i
+        data-receiver : (i : ℕ) → OC.step (OM.twoM D) (strandOf b k true .state) (OC.sendData (named to) (isFull to)) .receiver i
             ≡ receiversOf (sentTo thePayload) (bookAfter thePayload .aborts) i
-        unfolding LC.step view
+        unfolding OC.step view
         data-receiver i =
             let m = moduleAt i b in
             let x = slotAt s i b in
             let f = k .payloadFrame in
             let g = hearsIt thePayload i in
             let fs = map toFrame (nth [] i (k .aborts)) in
-            let heard : Looks (isReceiver x) (cond (isReceiver x) (LM.dataSlot (m .node .counter) p (heldIn (x .message))) (heldIn (x .message)))
+            let heard : Looks (isReceiver x) (cond (isReceiver x) (OM.dataSlot (m .node .counter) p (heldIn (x .message))) (heldIn (x .message)))
             (cond (isReceiver x) (x .pending .abort) (x .pending .abort))
             (slotOf s (hearing (f .id) (f .payload) (m .node) .node)) =
             rw (id, bytes) (heard-data s (v .small) (m .node) (v .nodes i) (λ y. v .receivers i y .class) p short) in
@@ -310,20 +310,20 @@ module _ (D : LS.Delays) (s : Stream) (me : ℕ) (p : List ℕ) where
             (notes s (m .log))
             (countOf (sentTo thePayload)) (m .node .counter) p (own-no-receiver sender i))
 
-        pub data-line : (hold : Bool)
-            → LH.act (LM.twoM D) (lineOf b k hold) (LH.on (LC.sendData (named to) (isFull to))) ≡ lineOf (sentTo thePayload)
+        pub data-strand : (hold : Bool)
+            → OH.act (OM.twoM D) (strandOf b k hold) (OH.on (OC.sendData (named to) (isFull to))) ≡ strandOf (sentTo thePayload)
             (bookAfter thePayload) hold
-        unfolding LH.act LC.step
-        data-line hold =
+        unfolding OH.act OC.step
+        data-strand hold =
             made-path (asFunction (k .payloadFrame .since)) (count-sent thePayload) (sent-again (k .payloadFrame .sendings)) refl
             (fun-ext data-receiver)
             (live-sent thePayload me) refl
 
       -- the confirmation
       module _ (id : k .confirmation .id ≡ idOf s 1) (bytes : k .confirmation .payload ≡ []) where
-        conf-receiver : (i : ℕ) → LC.step (LM.twoM D) (lineOf b k true .state) (LC.sendConf (named to) (isFull to)) .receiver i
+        conf-receiver : (i : ℕ) → OC.step (OM.twoM D) (strandOf b k true .state) (OC.sendConf (named to) (isFull to)) .receiver i
             ≡ receiversOf (sentTo theConfirmation) (bookAfter theConfirmation .aborts) i
-        unfolding LC.step view
+        unfolding OC.step view
         conf-receiver i =
             let m = moduleAt i b in
             let x = slotAt s i b in
@@ -333,7 +333,7 @@ module _ (D : LS.Delays) (s : Stream) (me : ℕ) (p : List ℕ) where
             let g = hearsIt theConfirmation i in
             let fs = map toFrame (nth [] i (k .aborts)) in
             let seen = viewOf D (m .live) r h (x .pending .abort) fs (notes s (m .log)) in
-            let heard : Looks r (cond r (LM.confSlot h) h) (cond r (x .pending .abort || LM.isEmpty h) (x .pending .abort))
+            let heard : Looks r (cond r (OM.confSlot h) h) (cond r (x .pending .abort || OM.isEmpty h) (x .pending .abort))
             (slotOf s (hearing (f .id) (f .payload) (m .node) .node)) =
             rw (id, bytes) (heard-conf s (v .small) (m .node) (v .nodes i) (λ y. v .receivers i y .class)) in
             sym (after-view b (sentTo theConfirmation) (k .aborts) size (size-step b (sends s 0 theConfirmation to)) i
@@ -341,13 +341,13 @@ module _ (D : LS.Delays) (s : Stream) (me : ℕ) (p : List ℕ) where
             (heard-looks s f m g heard) (heard-live f m g) (heard-log s f m g (not-plain s 1 (omega arith) id))
             ∙ (conf-view D (m .live) (named to i) (eqb i (k .sender)) r h (x .pending .abort) fs (notes s (m .log))
             (countOf (sentTo theConfirmation)) (own-no-receiver sender i)
-            ∙ ap (λ c. cond ((m .live && r) && named to i) (LC.hearConf (LM.twoM D) c seen) seen) (sym (count-sent theConfirmation))))
+            ∙ ap (λ c. cond ((m .live && r) && named to i) (OC.hearConf (OM.twoM D) c seen) seen) (sym (count-sent theConfirmation))))
 
-        pub conf-line : (hold : Bool)
-            → LH.act (LM.twoM D) (lineOf b k hold) (LH.on (LC.sendConf (named to) (isFull to))) ≡ lineOf (sentTo theConfirmation)
+        pub conf-strand : (hold : Bool)
+            → OH.act (OM.twoM D) (strandOf b k hold) (OH.on (OC.sendConf (named to) (isFull to))) ≡ strandOf (sentTo theConfirmation)
             (bookAfter theConfirmation) hold
-        unfolding LH.act LC.step
-        conf-line hold =
+        unfolding OH.act OC.step
+        conf-strand hold =
             made-path (asFunction (k .payloadFrame .since)) (count-sent theConfirmation) refl (sent-again (k .confirmation .sendings))
             (fun-ext conf-receiver)
             (live-sent theConfirmation me) refl
@@ -359,7 +359,7 @@ module _ (D : LS.Delays) (s : Stream) (me : ℕ) (p : List ℕ) where
         row-sent i = nth-at [] (at (sentOnce (now b) (isFull to)) y) i q (k .aborts) (inr refl)
 
         frames-sent : (y : ℕ) (fs : List Frame)
-            → map toFrame (at (sentOnce (now b) (isFull to)) y fs) ≡ LF.sendAt (countOf b) (isFull to) y (map toFrame fs)
+            → map toFrame (at (sentOnce (now b) (isFull to)) y fs) ≡ OF.sendAt (countOf b) (isFull to) y (map toFrame fs)
         unfolding toFrame
         frames-sent y [] = refl
         frames-sent zero (f ∷ fs) =
@@ -367,9 +367,9 @@ module _ (D : LS.Delays) (s : Stream) (me : ℕ) (p : List ℕ) where
             (sym (sent-again (f .sendings)))
         frames-sent (suc y) (f ∷ fs) = ap (λ l. toFrame f ∷ l) (frames-sent y fs)
 
-        abort-receiver : (i : ℕ) → LC.step (LM.twoM D) (lineOf b k true .state) (LC.sendCode2 q y (named to) (isFull to)) .receiver i
+        abort-receiver : (i : ℕ) → OC.step (OM.twoM D) (strandOf b k true .state) (OC.sendCode2 q y (named to) (isFull to)) .receiver i
             ≡ receiversOf (sentTo (theAbort q y)) (bookAfter (theAbort q y) .aborts) i
-        unfolding LC.step view
+        unfolding OC.step view
         abort-receiver i =
             let w = theAbort q y in
             let m = moduleAt i b in
@@ -380,35 +380,35 @@ module _ (D : LS.Delays) (s : Stream) (me : ℕ) (p : List ℕ) where
             let g = hearsIt w i in
             let row = nth [] i (k .aborts) in
             let rows = at (at (sentOnce (now b) (isFull to)) y) q (k .aborts) in
-            let heard : Looks r (cond r LM.empty h) (cond r (x .pending .abort) (x .pending .abort))
+            let heard : Looks r (cond r OM.empty h) (cond r (x .pending .abort) (x .pending .abort))
             (slotOf s (hearing (f .id) (f .payload) (m .node) .node)) =
             rw (id, bytes) (heard-abort s (v .small) (m .node) (v .nodes i) (λ y. v .receivers i y .class)) in
             let p′ = cond g (cond r (x .pending .abort) (x .pending .abort)) (x .pending .abort) in
             sym (after-view b (sentTo w) rows (length-at (at (sentOnce (now b) (isFull to)) y) q (k .aborts) ∙ size) (size-step b (sends s 0 w to)) i
             (cond g (hearsFrame f m) m) (module-sent w i) (heard-looks s f m g heard) (heard-live f m g)
             (heard-log s f m g (not-plain s 2 (omega arith) id))
-            ∙ (ap (λ z. viewOf D (m .live) r (cond g (cond r LM.empty h) h) p′
+            ∙ (ap (λ z. viewOf D (m .live) r (cond g (cond r OM.empty h) h) p′
             (cond (p′ && not (x .pending .abort)) (New D (countOf (sentTo w)) z) z) (notes s (m .log)))
             (ap (map toFrame) (row-sent i) ∙ through (eqb i q) (at (sentOnce (now b) (isFull to)) y row) row)
             ∙ abort-view D (m .live) (named to i) (eqb i q) r h (x .pending .abort) (map toFrame row)
             (map toFrame (at (sentOnce (now b) (isFull to)) y row)) (notes s (m .log))
-            (countOf (sentTo w)) (countOf b) (m .node .counter) y (isFull to) (LF.bytesAt y (map toFrame (nth [] q (k .aborts)))) (frames-sent y row)))
+            (countOf (sentTo w)) (countOf b) (m .node .counter) y (isFull to) (OF.bytesAt y (map toFrame (nth [] q (k .aborts)))) (frames-sent y row)))
           where
             through : (t : Bool) (fs gs : List Frame) → map toFrame (cond t fs gs) ≡ cond t (map toFrame fs) (map toFrame gs)
             through true fs gs = refl
             through false fs gs = refl
 
-        pub abort-line : (hold : Bool)
-            → LH.act (LM.twoM D) (lineOf b k hold) (LH.on (LC.sendCode2 q y (named to) (isFull to))) ≡ lineOf (sentTo (theAbort q y))
+        pub abort-strand : (hold : Bool)
+            → OH.act (OM.twoM D) (strandOf b k hold) (OH.on (OC.sendCode2 q y (named to) (isFull to))) ≡ strandOf (sentTo (theAbort q y))
             (bookAfter (theAbort q y)) hold
-        unfolding LH.act LC.step
-        abort-line hold =
+        unfolding OH.act OC.step
+        abort-strand hold =
             made-path (asFunction (k .payloadFrame .since)) (count-sent (theAbort q y)) refl refl (fun-ext abort-receiver)
             (live-sent (theAbort q y) me) refl
 
   -- ── giving out ──
   -- the module as the stream sees it, but for its pending abort and its frames
-  abbrev seenAs : Bench → ℕ → (pending : Bool) → List LF.Frame → LC.Receiver (LM.twoM D)
+  abbrev seenAs : Bench → ℕ → (pending : Bool) → List OF.Frame → OC.Receiver (OM.twoM D)
   seenAs b i q fs =
       viewOf D (isLive i b) (isReceiver (slotAt s i b)) (heldIn (slotAt s i b .message)) q fs (notes s (moduleAt i b .log))
 
@@ -484,21 +484,21 @@ module _ (D : LS.Delays) (s : Stream) (me : ℕ) (p : List ℕ) where
     module _ (k k′ : Book) (since : k′ .payloadFrame .since ≡ k .payloadFrame .since)
         (datas : k′ .payloadFrame .sendings ≡ k .payloadFrame .sendings)
         (confs : k′ .confirmation .sendings ≡ k .confirmation .sendings) (hold : Bool) where
-      given-line : (r : ℕ → LC.Receiver (LM.twoM D)) → ((i : ℕ) → r i ≡ receiversOf after (k′ .aborts) i)
+      given-strand : (r : ℕ → OC.Receiver (OM.twoM D)) → ((i : ℕ) → r i ≡ receiversOf after (k′ .aborts) i)
           → made (countOf b) (asFunction (k .payloadFrame .since)) (toSent (k .payloadFrame .sendings)) (toSent (k .confirmation .sendings)) r
           (isLive me b) hold
-          ≡ lineOf after k′ hold
-      given-line r same =
+          ≡ strandOf after k′ hold
+      given-strand r same =
           made-path (asFunction (k .payloadFrame .since)) (fun-ext (λ i. sym (given-same i .count))) (ap toSent (sym datas)) (ap toSent (sym confs))
           (fun-ext same) (sym (given-same me .live)) refl
           ∙ ap (λ t. made (countOf after) (asFunction t) (toSent (k′ .payloadFrame .sendings)) (toSent (k′ .confirmation .sendings))
           (receiversOf after (k′ .aborts)) (isLive me after) hold) (sym since)
 
-      -- data or a confirmation: the line stays
-      pub give-own-line : (eqb c 2 ≡ false) → k′ .aborts ≡ k .aborts → lineOf b k hold ≡ lineOf after k′ hold
+      -- data or a confirmation: the strand stays
+      pub give-own-strand : (eqb c 2 ≡ false) → k′ .aborts ≡ k .aborts → strandOf b k hold ≡ strandOf after k′ hold
       unfolding view
-      give-own-line not-abort rows =
-          given-line (receiversOf b (k .aborts))
+      give-own-strand not-abort rows =
+          given-strand (receiversOf b (k .aborts))
           (λ i.
           let abort = slotAt s i b .pending .abort in
           sym (given-view i (nth [] i (k′ .aborts))
@@ -512,12 +512,12 @@ module _ (D : LS.Delays) (s : Stream) (me : ℕ) (p : List ℕ) where
           flag false a p false e = refl
 
       -- an abort: its newest frame is given out
-      pub give-abort-line : c ≡ 2
-          → ((i : ℕ) → (let fs = map toFrame (nth [] i (k .aborts)) in map toFrame (nth [] i (k′ .aborts)) ≡ cond (eqb i j) (LF.giveNewest fs) fs))
-          → LH.act (LM.twoM D) (lineOf b k hold) (LH.on (LC.give j)) ≡ lineOf after k′ hold
-      unfolding LH.act LC.step LC.giveOwn view
-      give-abort-line two rows =
-          given-line (LC.step (LM.twoM D) (lineOf b k hold .state) (LC.give j) .receiver)
+      pub give-abort-strand : c ≡ 2
+          → ((i : ℕ) → (let fs = map toFrame (nth [] i (k .aborts)) in map toFrame (nth [] i (k′ .aborts)) ≡ cond (eqb i j) (OF.giveNewest fs) fs))
+          → OH.act (OM.twoM D) (strandOf b k hold) (OH.on (OC.give j)) ≡ strandOf after k′ hold
+      unfolding OH.act OC.step OC.giveOwn view
+      give-abort-strand two rows =
+          given-strand (OC.step (OM.twoM D) (strandOf b k hold .state) (OC.give j) .receiver)
           (λ i.
           let x = slotAt s i b in
           let abort = x .pending .abort in
@@ -527,8 +527,8 @@ module _ (D : LS.Delays) (s : Stream) (me : ℕ) (p : List ℕ) where
           ∙ (ap (λ z. seenAs b i (cond (eqb i j) false abort) z) (rows i)
           ∙ gave (eqb i j) (isLive i b) (isReceiver x) (heldIn (x .message)) abort fs (notes s (moduleAt i b .log))))))
         where
-          gave : (o l r : Bool) (h : LM.Slot) (p : Bool) (fs : List LF.Frame) (log : List LC.Note)
-              → viewOf D l r h (cond o false p) (cond o (LF.giveNewest fs) fs) log
-              ≡ cond o (LC.giveOwn (LM.twoM D) (viewOf D l r h p fs log)) (viewOf D l r h p fs log)
+          gave : (o l r : Bool) (h : OM.Slot) (p : Bool) (fs : List OF.Frame) (log : List OC.Note)
+              → viewOf D l r h (cond o false p) (cond o (OF.giveNewest fs) fs) log
+              ≡ cond o (OC.giveOwn (OM.twoM D) (viewOf D l r h p fs log)) (viewOf D l r h p fs log)
           gave true l r h p fs log = refl
           gave false l r h p fs log = refl

@@ -1,4 +1,4 @@
--- One 2M stream of a bench as a line of the one-stream proof, and what a tick and a sending make of its receivers.
+-- One 2M stream of a bench as a strand of the one-stream proof, and what a tick and a sending make of its receivers.
 use Prim.Native.Nat.{ℕ, zero, suc}
 use native.Mathlib.Omega.{arith}
 use mathlib.Core.Path.{_≡_, refl, ap, sym, _∙_}
@@ -16,25 +16,25 @@ use Rattle.bench.specs.Lists.{nth, at}
 use Rattle.bench.proofs.laws.SlotAfterCall.{hearing, hear-bytes}
 use Rattle.bench.proofs.laws.ModuleAfterEvent.{hearsFrame, asFunction}
 use Rattle.bench.proofs.demand3.ModuleSeen.{toSent, toFrame, notes, heldIn, viewOf, view, Looks, looks, view-looks}
-use Rattle.one_stream.specs.Sendings as LS
-use Rattle.one_stream.specs.Frames as LF
-use Rattle.one_stream.specs.Classes as LC
-use Rattle.one_stream.specs.TwoM as LM
+use Rattle.one_stream.specs.Sendings as OS
+use Rattle.one_stream.specs.Frames as OF
+use Rattle.one_stream.specs.Classes as OC
+use Rattle.one_stream.specs.TwoM as OM
 
-module _ (D : LS.Delays) where
-  abbrev pub C : LC.Class
-  C = LM.twoM D
+module _ (D : OS.Delays) where
+  abbrev pub C : OC.Class
+  C = OM.twoM D
 
   -- ── the views, with plain Booleans: l live, n named, o the owner, r a receiver ──
-  abbrev pub New : LS.Moment → List LF.Frame → List LF.Frame
-  New now fs = LF.newFrame now [] ∷ fs
+  abbrev pub New : OS.Moment → List OF.Frame → List OF.Frame
+  New now fs = OF.newFrame now [] ∷ fs
 
-  pub data-view : (l n o r : Bool) (h : LM.Slot) (p : Bool) (fs : List LF.Frame) (log : List LC.Note) (now : LS.Moment) (t : ℕ) (b : List ℕ)
+  pub data-view : (l n o r : Bool) (h : OM.Slot) (p : Bool) (fs : List OF.Frame) (log : List OC.Note) (now : OS.Moment) (t : ℕ) (b : List ℕ)
       → (T o → T (not r)) → (let g = l && n && not o in
-      viewOf D l r (cond g (cond r (LM.dataSlot t b h) h) h) (cond g (cond r p p) p) (cond (cond g (cond r p p) p && not p) (New now fs) fs)
+      viewOf D l r (cond g (cond r (OM.dataSlot t b h) h) h) (cond g (cond r p p) p) (cond (cond g (cond r p p) p && not p) (New now fs) fs)
       log
-      ≡ cond ((l && r) && n) (LC.hearData C t b (viewOf D l r h p fs log)) (viewOf D l r h p fs log))
-  unfolding LC.hearData
+      ≡ cond ((l && r) && n) (OC.hearData C t b (viewOf D l r h p fs log)) (viewOf D l r h p fs log))
+  unfolding OC.hearData
   data-view false n o r h true fs log now t b s = refl
   data-view false n o r h false fs log now t b s = refl
   data-view true false o true h true fs log now t b s = refl
@@ -49,11 +49,11 @@ module _ (D : LS.Delays) where
   data-view true true false false h true fs log now t b s = refl
   data-view true true false false h false fs log now t b s = refl
 
-  pub conf-view : (l n o r : Bool) (h : LM.Slot) (p : Bool) (fs : List LF.Frame) (log : List LC.Note) (now : LS.Moment)
-      → (T o → T (not r)) → (let g = l && n && not o in let q = cond g (cond r (p || LM.isEmpty h) p) p in
-      viewOf D l r (cond g (cond r (LM.confSlot h) h) h) q (cond (q && not p) (New now fs) fs) log
-      ≡ cond ((l && r) && n) (LC.hearConf C now (viewOf D l r h p fs log)) (viewOf D l r h p fs log))
-  unfolding LC.hearConf
+  pub conf-view : (l n o r : Bool) (h : OM.Slot) (p : Bool) (fs : List OF.Frame) (log : List OC.Note) (now : OS.Moment)
+      → (T o → T (not r)) → (let g = l && n && not o in let q = cond g (cond r (p || OM.isEmpty h) p) p in
+      viewOf D l r (cond g (cond r (OM.confSlot h) h) h) q (cond (q && not p) (New now fs) fs) log
+      ≡ cond ((l && r) && n) (OC.hearConf C now (viewOf D l r h p fs log)) (viewOf D l r h p fs log))
+  unfolding OC.hearConf
   conf-view false n o r h true fs log now s = refl
   conf-view false n o r h false fs log now s = refl
   conf-view true false o true h true fs log now s = refl
@@ -63,25 +63,25 @@ module _ (D : LS.Delays) where
   conf-view true true true true h p fs log now s = absurd (s tt)
   conf-view true true true false h true fs log now s = refl
   conf-view true true true false h false fs log now s = refl
-  conf-view true true false true LM.empty true fs log now s = refl
-  conf-view true true false true LM.empty false fs log now s = refl
-  conf-view true true false true (LM.held u c b) true fs log now s = refl
-  conf-view true true false true (LM.held u c b) false fs log now s = refl
+  conf-view true true false true OM.empty true fs log now s = refl
+  conf-view true true false true OM.empty false fs log now s = refl
+  conf-view true true false true (OM.held u c b) true fs log now s = refl
+  conf-view true true false true (OM.held u c b) false fs log now s = refl
   conf-view true true false false h true fs log now s = refl
   conf-view true true false false h false fs log now s = refl
 
   -- an abort: its owner has one more sending, the others hear it
-  pub abort-view : (l n o r : Bool) (h : LM.Slot) (p : Bool) (fs gs : List LF.Frame) (log : List LC.Note) (new now : LS.Moment) (t k : ℕ)
+  pub abort-view : (l n o r : Bool) (h : OM.Slot) (p : Bool) (fs gs : List OF.Frame) (log : List OC.Note) (new now : OS.Moment) (t k : ℕ)
       (full : Bool) (b : List ℕ)
-      → gs ≡ LF.sendAt now full k fs → (let g = l && n && not o in let q = cond g (cond r p p) p in
-      viewOf D l r (cond g (cond r LM.empty h) h) q (cond (q && not p) (New new (cond o gs fs)) (cond o gs fs)) log
-      ≡ cond o (LC.sendOwn C t now full k (viewOf D l r h p fs log))
-      (cond ((l && r) && n) (LC.hearCode2 C t b (viewOf D l r h p fs log)) (viewOf D l r h p fs log)))
-  unfolding LC.hearCode2
-  abort-view l n true r h p fs gs log new now t k full b e = own l n p ∙ (unfold LC.sendOwn in sent-own full e)
+      → gs ≡ OF.sendAt now full k fs → (let g = l && n && not o in let q = cond g (cond r p p) p in
+      viewOf D l r (cond g (cond r OM.empty h) h) q (cond (q && not p) (New new (cond o gs fs)) (cond o gs fs)) log
+      ≡ cond o (OC.sendOwn C t now full k (viewOf D l r h p fs log))
+      (cond ((l && r) && n) (OC.hearCode2 C t b (viewOf D l r h p fs log)) (viewOf D l r h p fs log)))
+  unfolding OC.hearCode2
+  abort-view l n true r h p fs gs log new now t k full b e = own l n p ∙ (unfold OC.sendOwn in sent-own full e)
     where
       own : (l n p : Bool) → (let g = l && n && not true in let q = cond g (cond r p p) p in
-          viewOf D l r (cond g (cond r LM.empty h) h) q (cond (q && not p) (New new gs) gs) log ≡ viewOf D l r h p gs log)
+          viewOf D l r (cond g (cond r OM.empty h) h) q (cond (q && not p) (New new gs) gs) log ≡ viewOf D l r h p gs log)
       own false n true = refl
       own false n false = refl
       own true true true = refl
@@ -89,12 +89,12 @@ module _ (D : LS.Delays) where
       own true false true = refl
       own true false false = refl
 
-      sent-own : (full : Bool) → gs ≡ LF.sendAt now full k fs
+      sent-own : (full : Bool) → gs ≡ OF.sendAt now full k fs
           → viewOf D l r h p gs log ≡ record {
             live = l && r;
-            slot = cond full (cond r h LM.empty) (cond r h LM.empty);
+            slot = cond full (cond r h OM.empty) (cond r h OM.empty);
             pending = p;
-            frames = LF.sendAt now full k fs;
+            frames = OF.sendAt now full k fs;
             log = log;
           }
       sent-own true e = ap (λ z. viewOf D l r h p z log) e
@@ -110,26 +110,26 @@ module _ (D : LS.Delays) where
   abort-view true true false false h true fs gs log new now t k full b e = refl
   abort-view true true false false h false fs gs log new now t k full b e = refl
 
-  pub tick-view : (l r : Bool) (h : LM.Slot) (p : Bool) (fs : List LF.Frame) (log : List LC.Note) (now : LS.Moment) (t : ℕ)
-      → (let q = cond l (cond r (p || LM.late D t h) p) p in
-      viewOf D l r (cond l (cond r (cond (LM.late D t h || LM.due D t h) LM.empty h) h) h) q (cond (q && not p) (New now fs) fs)
-      (cond l (cond (r && LM.due D t h) (record { at = t; bytes = LM.bytesOf h } ∷ log) log) log)
-      ≡ cond ((l && r) && l) (LC.ticked C t now (viewOf D l r h p fs log)) (viewOf D l r h p fs log))
-  unfolding LC.ticked
+  pub tick-view : (l r : Bool) (h : OM.Slot) (p : Bool) (fs : List OF.Frame) (log : List OC.Note) (now : OS.Moment) (t : ℕ)
+      → (let q = cond l (cond r (p || OM.late D t h) p) p in
+      viewOf D l r (cond l (cond r (cond (OM.late D t h || OM.due D t h) OM.empty h) h) h) q (cond (q && not p) (New now fs) fs)
+      (cond l (cond (r && OM.due D t h) (record { at = t; bytes = OM.bytesOf h } ∷ log) log) log)
+      ≡ cond ((l && r) && l) (OC.ticked C t now (viewOf D l r h p fs log)) (viewOf D l r h p fs log))
+  unfolding OC.ticked
   tick-view false r h true fs log now t = refl
   tick-view false r h false fs log now t = refl
   tick-view true false h true fs log now t = refl
   tick-view true false h false fs log now t = refl
-  tick-view true true h p fs log now t = go p (LM.late D t h)
+  tick-view true true h p fs log now t = go p (OM.late D t h)
     where
-      go : (p c : Bool) → viewOf D true true (cond (c || LM.due D t h) LM.empty h) (p || c) (cond ((p || c) && not p) (New now fs) fs)
-          (cond (LM.due D t h) (record { at = t; bytes = LM.bytesOf h } ∷ log) log)
+      go : (p c : Bool) → viewOf D true true (cond (c || OM.due D t h) OM.empty h) (p || c) (cond ((p || c) && not p) (New now fs) fs)
+          (cond (OM.due D t h) (record { at = t; bytes = OM.bytesOf h } ∷ log) log)
           ≡ record {
             live = true;
-            slot = cond (c || LM.due D t h) LM.empty h;
+            slot = cond (c || OM.due D t h) OM.empty h;
             pending = p || c;
-            frames = LF.addFrame c p now [] fs;
-            log = cond (LM.due D t h) (record { at = t; bytes = LM.bytesOf h } ∷ log) log;
+            frames = OF.addFrame c p now [] fs;
+            log = cond (OM.due D t h) (record { at = t; bytes = OM.bytesOf h } ∷ log) log;
           }
       go true true = refl
       go true false = refl
@@ -172,18 +172,18 @@ enter-none t s (m ∷ ms) (n ∷ ns) (row ∷ rows) e =
     ∙ ap (λ y. row ∷ y) (enter-none t s ms ns rows (λ i. e (suc i))))
 
 frames-cond : (c : Bool) (t : Moment) (fs : List Frame)
-    → map toFrame (cond c (pendingSince t ∷ fs) fs) ≡ cond c (LF.newFrame (asFunction t) [] ∷ map toFrame fs) (map toFrame fs)
+    → map toFrame (cond c (pendingSince t ∷ fs) fs) ≡ cond c (OF.newFrame (asFunction t) [] ∷ map toFrame fs) (map toFrame fs)
 unfolding toFrame toSent
 frames-cond true t fs = refl
 frames-cond false t fs = refl
 
 -- ── the module after a frame was heard, or not ──
-module _ (D : LS.Delays) (s : Stream) (t : Moment) (m m′ : Module) (fs : List Frame) {h′ : LM.Slot} {p′ : Bool} {log : List LC.Note} where
+module _ (D : OS.Delays) (s : Stream) (t : Moment) (m m′ : Module) (fs : List Frame) {h′ : OM.Slot} {p′ : Bool} {log : List OC.Note} where
   -- what the new module looks like decides its view, and which abort became pending
   pub view-entered : Looks (isReceiver (slotOf s (m .node))) h′ p′ (slotOf s (m′ .node)) → m′ .live ≡ m .live → notes s (m′ .log) ≡ log
       → view D s m′ (cond (becamePending s m m′) (pendingSince t ∷ fs) fs)
       ≡ viewOf D (m .live) (isReceiver (slotOf s (m .node))) h′ p′
-      (cond (p′ && not (slotOf s (m .node) .pending .abort)) (LF.newFrame (asFunction t) [] ∷ map toFrame fs) (map toFrame fs)) log
+      (cond (p′ && not (slotOf s (m .node) .pending .abort)) (OF.newFrame (asFunction t) [] ∷ map toFrame fs) (map toFrame fs)) log
   view-entered looks live logs =
       let r = isReceiver (slotOf s (m .node)) in
       let p = slotOf s (m .node) .pending .abort in
@@ -194,7 +194,7 @@ module _ (D : LS.Delays) (s : Stream) (t : Moment) (m m′ : Module) (fs : List 
       ∙ ap (λ z. viewOf D (m .live) r h′ p′ z log) (frames-cond (p′ && not p) t fs))))
 
 -- what hearing makes of a module, as its stream sees it
-pub heard-looks : (s : Stream) (f : Frame) (m : Module) (g : Bool) {h′ : LM.Slot} {p′ : Bool} → (let x = slotOf s (m .node) in
+pub heard-looks : (s : Stream) (f : Frame) (m : Module) (g : Bool) {h′ : OM.Slot} {p′ : Bool} → (let x = slotOf s (m .node) in
     Looks (isReceiver x) h′ p′ (slotOf s (hearing (f .id) (f .payload) (m .node) .node))
     → Looks (isReceiver x) (cond g h′ (heldIn (x .message))) (cond g p′ (x .pending .abort)) (slotOf s ((cond g (hearsFrame f m) m) .node)))
 heard-looks s f m true l = l

@@ -33,10 +33,10 @@ use Rattle.bench.proofs.demand3.RulesSeen.{maySend, was-given}
 use Rattle.bench.proofs.demand3.MessageKept.{Track, track-else, track-send, track-death, track-tick}
 use Rattle.bench.proofs.demand3.KeptByGivingOut.{track-give}
 use Rattle.bench.proofs.demand3.RequestOpens.{logsOf, open-track, next-track}
-use Rattle.one_stream.specs.Sendings as LS
-use Rattle.one_stream.specs.Classes as LC
-use Rattle.one_stream.proofs.Histories as LH
-use Rattle.one_stream.specs.TwoM as LM
+use Rattle.one_stream.specs.Sendings as OS
+use Rattle.one_stream.specs.Classes as OC
+use Rattle.one_stream.proofs.Histories as OH
+use Rattle.one_stream.specs.TwoM as OM
 use Rattle.bench.proofs.laws.SlotAfterCall as Laws
 
 -- ── events of other streams ──
@@ -90,7 +90,7 @@ sends-elsewhere s b l z n w to other t =
     (other, λ e. other (e ∙ labelled b l z n w (was-given b z (bookOf z n b) w (may-send b z n w to t))))
 
 -- ── any event that opens no message of the stream ──
-module _ (D : LS.Delays) (fit : LM.Fit D) (s : Stream) (me : ℕ) (since : Moment) (p : List ℕ) (base : ℕ → List LC.Note) (b : Bench)
+module _ (D : OS.Delays) (fit : OM.Fit D) (s : Stream) (me : ℕ) (since : Moment) (p : List ℕ) (base : ℕ → List OC.Note) (b : Bench)
     (v : Valid D s me b)
     (x : Track D fit s me since p base b) where
   abbrev Follows : Bench → Type 0
@@ -167,7 +167,7 @@ module _ (age : ℕ) (x : Slot) (free : x .message .held ≡ false) where
   unfolding lapsed
   quiet-lapsed = rw (not-late, not-due, not-over) refl
 
-module _ (D : LS.Delays) (s : Stream) (me : ℕ) (b : Bench) (v : Valid D s me b) (q : NoBook s b) where
+module _ (D : OS.Delays) (s : Stream) (me : ℕ) (b : Bench) (v : Valid D s me b) (q : NoBook s b) where
   nobook-else : (e : Event) → Elsewhere s b e → NoBook s (step b e)
   nobook-else e els =
       record { books = else-books s b e els ∙ q .books; quiet = λ i. subst Quiet (sym (untouched-step s b e els i .slot)) (q .quiet i) }
@@ -215,7 +215,7 @@ module _ (D : LS.Delays) (s : Stream) (me : ℕ) (b : Bench) (v : Valid D s me b
       }
 
   -- the first message
-  start : LH.Line (LM.twoM D)
+  start : OH.Strand (OM.twoM D)
   start =
       record {
         state =
@@ -223,8 +223,8 @@ module _ (D : LS.Delays) (s : Stream) (me : ℕ) (b : Bench) (v : Valid D s me b
               now = countOf b;
               requested = countOf b;
               message = [];
-              dataSent = LS.never;
-              confSent = LS.never;
+              dataSent = OS.never;
+              confSent = OS.never;
               receiver = receiversOf D s me [] b [];
             };
         sender = me;
@@ -233,32 +233,32 @@ module _ (D : LS.Delays) (s : Stream) (me : ℕ) (b : Bench) (v : Valid D s me b
         hold = false;
       }
 
-  idle-start : (i : ℕ) → LH.IdleReceiver (LM.twoM D) (view D s (moduleAt i b) [])
+  idle-start : (i : ℕ) → OH.IdleReceiver (OM.twoM D) (view D s (moduleAt i b) [])
   unfolding view heldIn
   idle-start i =
       record { slot = rw (q .quiet i .held) (same-empty (isReceiver (slotAt s i b))); frames = refl; pending = q .quiet i .noAbort }
     where
-      same-empty : (r : Bool) → cond r LM.empty LM.empty ≡ LM.empty
+      same-empty : (r : Bool) → cond r OM.empty OM.empty ≡ OM.empty
       same-empty true = refl
       same-empty false = refl
 
-  start-fresh : LH.Fresh (LM.twoM D) start
+  start-fresh : OH.Fresh (OM.twoM D) start
   unfolding start
   start-fresh = record { notBegun = refl; noData = refl; noConf = refl; same = λ i. refl; idle = idle-start }
 
-  pub first-track : (fit : LM.Fit D) (j : ℕ) (p : List ℕ) → T (isAccepted j s p b)
+  pub first-track : (fit : OM.Fit D) (j : ℕ) (p : List ℕ) → T (isAccepted j s p b)
       → Track D fit s me (now b) p (logsOf s b) (step b (asks j s p))
   unfolding start
   first-track fit j p t =
       open-track D fit s me p b v j t start [] refl refl refl refl tt false (λ i. start .state .receiver i .log)
-      (fresh-inv D (LM.twoM D) (twoMWorks D fit) start start-fresh) no-send
+      (fresh-inv D (OM.twoM D) (twoMWorks D fit) start start-fresh) no-send
 
 -- ── whole histories ──
-pub data Phase (D : LS.Delays) (fit : LM.Fit D) (s : Stream) (me : ℕ) (b : Bench) : Type 0 where
+pub data Phase (D : OS.Delays) (fit : OM.Fit D) (s : Stream) (me : ℕ) (b : Bench) : Type 0 where
   silent : NoBook s b → Phase D fit s me b
-  asked : (since : Moment) (p : List ℕ) (base : ℕ → List LC.Note) → Track D fit s me since p base b → Phase D fit s me b
+  asked : (since : Moment) (p : List ℕ) (base : ℕ → List OC.Note) → Track D fit s me since p base b → Phase D fit s me b
 
-module _ (D : LS.Delays) (fit : LM.Fit D) (s : Stream) (me : ℕ) where
+module _ (D : OS.Delays) (fit : OM.Fit D) (s : Stream) (me : ℕ) where
   pub opened : (b : Bench) → Valid D s me b → Phase D fit s me b → (j : ℕ) (p : List ℕ) → T (isAccepted j s p b)
       → Track D fit s me (now b) p (logsOf s b) (step b (asks j s p))
   opened b v (silent q) j p t = first-track D s me b v q fit j p t

@@ -27,17 +27,17 @@ use Rattle.bench.proofs.laws.ModuleAfterEvent.{module-step, refused-ask
 use Rattle.bench.proofs.laws.BooksAfterEvent.{withAborts, entering, books-asked, books-given, books-sent, books-ticked, books-dead}
 use Rattle.bench.proofs.demand3.ModuleSeen.{heldIn, view, or-false}
 use Rattle.bench.proofs.demand3.StreamSeen.{enter-none}
-use Rattle.bench.proofs.demand3.SeenAfterOwnEvent.{Valid, valid-step, lineOf, tick-looks}
+use Rattle.bench.proofs.demand3.SeenAfterOwnEvent.{Valid, valid-step, strandOf, tick-looks}
 use Rattle.bench.proofs.demand3.RulesSeen.{maySend, owner-lives, legal-data, legal-conf, legal-abort}
 use Rattle.bench.proofs.demand3.MessageKept.{Track}
 use Rattle.bench.proofs.demand3.RequestOpens.{logsOf}
 use Rattle.bench.proofs.demand3.ThroughHistory.{asked, opened, else-books, Opens, opens?, may-send, sends-elsewhere, track-step, Phase}
 use Rattle.bench.proofs.demand3.Judgement.{live-back, count-step}
 use Rattle.bench.proofs.demand3.Demand3.{run-append, Known, known-rest, judged-bench, judged-known, demand3}
-use Rattle.one_stream.specs.Sendings as LS
-use Rattle.one_stream.specs.Classes as LC
-use Rattle.one_stream.proofs.Histories as LH
-use Rattle.one_stream.specs.TwoM as LM
+use Rattle.one_stream.specs.Sendings as OS
+use Rattle.one_stream.specs.Classes as OC
+use Rattle.one_stream.proofs.Histories as OH
+use Rattle.one_stream.specs.TwoM as OM
 
 -- giving out changes no omission
 given-omits : (o : Outcome) (w : Which) (k : Book) → omissions (onFrame w (gaveOut o) k) ≡ omissions k
@@ -60,17 +60,17 @@ nth-newest f n [] = refl
 nth-newest f n (k ∷ ks) = refl
 
 -- every live module has counted past the message
-abbrev Counted : LS.Delays → Moment → Bench → Type 0
+abbrev Counted : OS.Delays → Moment → Bench → Type 0
 Counted D since b = (i : ℕ) → T (isLive i b) → asFunction since i + D .rd + D .dd < countOf b i
 
-counted-step : (D : LS.Delays) (since : Moment) (b : Bench) (e : Event) → Counted D since b → Counted D since (step b e)
+counted-step : (D : OS.Delays) (since : Moment) (b : Bench) (e : Event) → Counted D since b → Counted D since (step b e)
 counted-step D since b e c i l = omega (arith, c i (live-back b e i l), count-step b e i l)
 
-module _ (D : LS.Delays) (fit : LM.Fit D) (common : D .e ≡ 0) (s : Stream) (me : ℕ) (since : Moment) (p : List ℕ) (base : ℕ → List LC.Note)
+module _ (D : OS.Delays) (fit : OM.Fit D) (common : D .e ≡ 0) (s : Stream) (me : ℕ) (since : Moment) (p : List ℕ) (base : ℕ → List OC.Note)
     (b : Bench) (v : Valid D s me b)
     (x : Track D fit s me since p base b) where
-  abbrev L₀ : LH.Line (LM.twoM D)
-  L₀ = lineOf D s me p b (x .k) (x .hold)
+  abbrev Z₀ : OH.Strand (OM.twoM D)
+  Z₀ = strandOf D s me p b (x .k) (x .hold)
 
   -- only the newest message may be sent
   send-newest : (n : ℕ) (w : Which) → T (maySend b s (nth noBook n (booksOf s b)) w) → (n ≡ 0) × T (maySend b s (x .k) w)
@@ -81,12 +81,12 @@ module _ (D : LS.Delays) (fit : LM.Fit D) (common : D .e ≡ 0) (s : Stream) (me
       go (suc n) h = absurd (x .old n w h)
 
   module _ (c : Counted D since b) where
-    over-now : (i : ℕ) → T (isLive i b) → Over D (LM.twoM D) (L₀ .state) i
+    over-now : (i : ℕ) → T (isLive i b) → Over D (OM.twoM D) (Z₀ .state) i
     over-now i l = omega (arith, c i l, ap (λ t. asFunction t i) (x .own .asked), common)
 
     -- nothing of it may be sent any more
     no-more : (w : Which) → T (maySend b s (x .k) w) → ⊥
-    unfolding LC.Legal
+    unfolding OC.Legal
     no-more thePayload h =
         let i = x .k .sender in
         let g = legal-data D s me p b v (x .k) (x .own .sender) (x .hold) all h in
@@ -94,10 +94,10 @@ module _ (D : LS.Delays) (fit : LM.Fit D) (common : D .e ≡ 0) (s : Stream) (me
     no-more theConfirmation h =
         let i = x .k .sender in
         let g = legal-conf D s me p b v (x .k) (x .own .sender) (x .hold) all h in
-        let t = books-of D fit L₀ (x .a) base (x .inv) .times .sentData (g .2) in
+        let t = books-of D fit Z₀ (x .a) base (x .inv) .times .sentData (g .2) in
         omega (arith, g .3 i, over-now i (owner-lives b s (x .k) theConfirmation h), t .order i, t .reach i, fit .deliverAfterAbort, common)
     no-more (theAbort q y) h =
-        closed-code2 D (LM.twoM D) (twoMWorks D fit) L₀ (x .a) base (x .inv) q y (named all) true
+        closed-code2 D (OM.twoM D) (twoMWorks D fit) Z₀ (x .a) base (x .inv) q y (named all) true
         (λ l. inr (over-now q (owner-lives b s (x .k) (theAbort q y) h)))
         (legal-abort D s me p b v (x .k) (x .own .sender) (x .hold) (x .own .rows) q y all h)
 
@@ -111,24 +111,24 @@ module _ (D : LS.Delays) (fit : LM.Fit D) (common : D .e ≡ 0) (s : Stream) (me
         y : Slot
         y = slotAt s i b
 
-        h : LM.Slot
+        h : OM.Slot
         h = heldIn (y .message)
 
         t : ℕ
         t = countOf b i + 1
 
-        idle : T (isLive i b) → T (isReceiver y) → cond (isReceiver y) h LM.empty ≡ LM.empty
+        idle : T (isLive i b) → T (isReceiver y) → cond (isReceiver y) h OM.empty ≡ OM.empty
         idle l r =
-            twoMWorks D fit .idle (L₀ .state) (x .a) base (x .inv .books) (x .inv .slots) i (both (isLive i b) (isReceiver y) l r)
+            twoMWorks D fit .idle (Z₀ .state) (x .a) base (x .inv .books) (x .inv .slots) i (both (isLive i b) (isReceiver y) l r)
             (inr (over-now i l))
 
         go : (l r : Bool) → (T l → T (isLive i b)) → (T r → T (isReceiver y))
-            → cond l (cond r (y .pending .abort || LM.late D t h) (y .pending .abort)) (y .pending .abort) ≡ y .pending .abort
+            → cond l (cond r (y .pending .abort || OM.late D t h) (y .pending .abort)) (y .pending .abort) ≡ y .pending .abort
         go false r f g = refl
         go true false f g = refl
         go true true f g =
-            let empty-is : h ≡ LM.empty = sym (cond-true (isReceiver y) h LM.empty (g tt)) ∙ idle (f tt) (g tt) in
-            ap (λ z. y .pending .abort || LM.late D t z) empty-is ∙ or-false (y .pending .abort)
+            let empty-is : h ≡ OM.empty = sym (cond-true (isReceiver y) h OM.empty (g tt)) ∙ idle (f tt) (g tt) in
+            ap (λ z. y .pending .abort || OM.late D t z) empty-is ∙ or-false (y .pending .abort)
 
     -- the omissions of the newest message
     same-newest : (e : Event) → (Opens s b e → ⊥) → T (may b e) → omissions (bookOf s 0 (step b e)) ≡ omissions (bookOf s 0 b)
@@ -194,12 +194,12 @@ module _ (D : LS.Delays) (fit : LM.Fit D) (common : D .e ≡ 0) (s : Stream) (me
   same-older o (dies j) shut m = ap (nth noBook (suc o)) (books-dead s b j)
 
 -- ── to the end of the history ──
-module _ (D : LS.Delays) (fit : LM.Fit D) (common : D .e ≡ 0) (s : Stream) (me : ℕ) (c : ℕ) where
+module _ (D : OS.Delays) (fit : OM.Fit D) (common : D .e ≡ 0) (s : Stream) (me : ℕ) (c : ℕ) where
   -- the judged message is the stream's newest, and its time is over; or it is an older one
   data Stage (b : Bench) : Type 0 where
-    newest : (since : Moment) (p : List ℕ) (base : ℕ → List LC.Note) → Track D fit s me since p base b → Counted D since b
+    newest : (since : Moment) (p : List ℕ) (base : ℕ → List OC.Note) → Track D fit s me since p base b → Counted D since b
         → omissions (bookOf s 0 b) ≡ c → Stage b
-    older : (n : ℕ) (since : Moment) (p : List ℕ) (base : ℕ → List LC.Note) → Track D fit s me since p base b
+    older : (n : ℕ) (since : Moment) (p : List ℕ) (base : ℕ → List OC.Note) → Track D fit s me since p base b
         → omissions (bookOf s (suc n) b) ≡ c → Stage b
 
   stays-put : (b : Bench) → Valid D s me b → Stage b → (e : Event) → (Opens s b e → ⊥) → T (may b e) → Stage (step b e)
