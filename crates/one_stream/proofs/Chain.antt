@@ -40,6 +40,10 @@ AllOrNone C w base =
 pub record Works (S : Delays) (C : Class) : Type 1 where
   pub Cause : State C → Moment → Bytes → Type 0
   pub Slots : State C → Bool → (ℕ → List Note) → Type 0
+  -- the hold is longer than the reaches of data and confirmation; an idle slot makes nothing pending at a tick
+  pub reaches : S .rd + S .dc ≤ C .hold
+  pub calm : (n : ℕ) → C .late n (C .idle) ≡ false
+  pub readySome : (d : Sent) → C .Ready d → Some d
   pub doneSome : (d : Sent) → C .Done d → Some d
   pub doneKeep : (now : Moment) (full : Bool) (d : Sent) → (Full d → ⊥) → (C .Done (resend now full d) → ⊥) → C .Done d → ⊥
   -- a cause stays; a new frame has one
@@ -51,6 +55,7 @@ pub record Works (S : Delays) (C : Class) : Type 1 where
       → (i : ℕ) → T (causes S C w e i) → Cause (step C w e) (step C w e .now) (C .payload (w .receiver i .slot))
   -- it needs a sending of the data, and its reach ends before the message is over
   pub causeData : (w : State C) (t : Moment) (m : Bytes) → Cause w t m → Some (w .dataSent)
+  pub causeBytes : (w : State C) (t : Moment) (m : Bytes) → Cause w t m → m ≡ C .carried (w .message)
   pub causeOver : (w : State C) → Times S C w → (t : Moment) (m : Bytes) → Cause w t m
       → (i : ℕ) → Live w i → Over S C w i → t i + S .ra < w .now i
   -- the slots
@@ -193,6 +198,18 @@ module _ (S : Delays) (C : Class) (W : Works S C) where
         go k [] m e = m
         go zero (f ∷ fs) m e = omega (arith, m .reach q, past-frame q lq (past lq) f (e .0) .0)
         go (suc k) (f ∷ fs) m e = go k fs m (e .1)
+
+    -- ── a module has counted past the hold: neither data nor confirmation may be sent any more ──
+    module _ (i : ℕ) (over : Z .state .requested i + C .hold < Z .state .now i) (hears : ℕ → Bool) (full : Bool) where
+      pub closed-data : Legal C S (Z .state) (sendData hears full) → ⊥
+      unfolding Legal
+      closed-data l = omega (arith, l .2 i, W .reaches)
+
+      pub closed-conf : Legal C S (Z .state) (sendConf hears full) → ⊥
+      unfolding Legal
+      closed-conf l =
+          let t = v .books .times .sentData (W .readySome (Z .state .dataSent) (l .2)) in
+          omega (arith, l .3 i, t .order i, t .reach i, W .reaches)
 
     -- ── a live sender without a hold: every live receiver has counted past the message, and is idle ──
     module _ (up : T (Z .up)) (free : T (not (Z .hold))) where

@@ -4,7 +4,7 @@ use Prim.Native.Nat.{ℕ, _+_, _≤_, _<_}
 use native.Mathlib.Omega.{arith}
 use mathlib.Core.Path.{_≡_, refl, subst}
 use mathlib.Core.Logic.{_⊎_, inl, inr}
-use mathlib.Core.Bool.{Bool, true, false, not, _||_}
+use mathlib.Core.Bool.{Bool, true, false, _||_}
 use mathlib.Core.List.{List, [], _∷_}
 use lib.Dec.{T}
 use Rattle.one_stream.proofs.Truth.{decide}
@@ -17,7 +17,7 @@ use Rattle.one_stream.proofs.Events.{fullOf, causes, live-before}
 use Rattle.one_stream.proofs.Histories.{Strand}
 use Rattle.one_stream.proofs.Twice.{Lost, AnyLost, Twice, dataConf, dataCode2, confCode2}
 use Rattle.one_stream.proofs.Books.{Paced, Times, FrameOk, Books}
-use Rattle.one_stream.proofs.Chain.{Over, Past, NotDelivered, AllOrNone, Works, Inv, hold-over}
+use Rattle.one_stream.proofs.Chain.{Over, Past, NotDelivered, AllOrNone, Works, Inv}
 use Rattle.one_stream.specs.TwoM.{Fit, Slot, empty, held, twoM}
 use Rattle.one_stream.proofs.TwoMWhy.{WasSent, World, Flaw, When, refused, timedOut, Cause, Why, untouched, gaveAbort, heardAbort}
 use Rattle.one_stream.proofs.TwoMWhy.{delivered, SlotOk, Slots}
@@ -227,11 +227,15 @@ module _ (S : Delays) (fit : Fit S) where
       record {
         Cause = Cause S;
         Slots = Slots S;
+        reaches = omega (arith, fit .deliverAfterAbort);
+        calm = λ n. refl;
+        readySome = λ d x. x;
         doneSome = λ d x. x;
         doneKeep = λ now full d nf n x. n (some-resend now full d);
         causeKeep = cause-keep;
         causeNew = cause-new;
         causeData = λ w t m c. flaw-data w (c .flaw);
+        causeBytes = λ w t m c. c .bytes;
         causeOver = cause-over;
         keep = keep;
         idle = λ w a base b s i live p. idle-slot w a base b i (w .receiver i .slot) (s .each i live) p;
@@ -248,18 +252,3 @@ module _ (S : Delays) (fit : Fit S) where
     pub slots-of : Slots S (Z .state) a base
     unfolding twoMWorks
     slots-of = v .slots
-
-    -- a live sender without a hold: neither data nor confirmation may be sent any more
-    module _ (up : T (Z .up)) (free : T (not (Z .hold))) (begun : T (Z .begun)) (hears : ℕ → Bool) (full : Bool) where
-      pub closed-data : Legal (twoM S) S (Z .state) (sendData hears full) → ⊥
-      unfolding Legal
-      closed-data l =
-          omega (arith, l .2 (Z .sender), hold-over S (twoM S) twoMWorks Z a base v up free begun)
-
-      pub closed-conf : Legal (twoM S) S (Z .state) (sendConf hears full) → ⊥
-      unfolding Legal
-      closed-conf l =
-          let i = Z .sender in
-          let t = books-of .times .sentData (l .2) in
-          let o = hold-over S (twoM S) twoMWorks Z a base v up free begun in
-          omega (arith, l .3 i, o, t .order i, t .reach i, fit .deliverAfterAbort)

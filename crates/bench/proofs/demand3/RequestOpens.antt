@@ -12,9 +12,9 @@ use Rattle.node.specs.declared.slots.Message.{Message}
 use Rattle.wire.specs.Settings.{isPlain}
 use Rattle.node.specs.Request.{requested}
 use Rattle.node.specs.Slots.{payloadOf, holding}
-use Rattle.one_stream.proofs.Chain.{Inv, closed-code2, past-all, open-inv}
+use Rattle.one_stream.proofs.Chain.{Inv, HoldOver, closed-data, closed-conf, closed-code2, hold-over, past-all, open-inv}
 use Rattle.one_stream.proofs.Truth.{cond-false, and-l}
-use Rattle.one_stream.proofs.TwoMEnd.{twoMWorks, closed-data, closed-conf}
+use Rattle.one_stream.proofs.TwoMEnd.{twoMWorks}
 use Rattle.bench.specs.Bench.{Module, Bench, Frame, pendingSince, noBook, moduleAt, isLive, slotAt, booksOf, now, Which, thePayload}
 use Rattle.bench.specs.Bench.{theConfirmation, theAbort, Moment}
 use Rattle.bench.specs.Events.{asks, step, isAccepted, newBook, asked, named, all}
@@ -122,12 +122,15 @@ module _ (D : OS.Delays) (fit : OM.Fit D) (s : Stream) (me : ℕ) (since : Momen
       subst (λ h. T (not h)) (sym (x .sender .holds (me-lives D fit s me p b v j t)))
       (subst (λ i. T (not (slotAt s i b .message .held))) (asks-me D s me p b v j t) (asks-free D s me p b v j t))
 
+  hold-is-over : HoldOver D (OM.twoM D) (twoMWorks D fit) strand (countOf b)
+  hold-is-over = hold-over D (OM.twoM D) (twoMWorks D fit) strand (x .a) base (x .inv) (me-lives D fit s me p b v j t) sender-free tt
+
   shut-newest : (w : Which) → T (maySend b s (x .k) w) → ⊥
   shut-newest thePayload h =
-      closed-data D fit strand (x .a) base (x .inv) (me-lives D fit s me p b v j t) sender-free tt (named all) true
+      closed-data D (OM.twoM D) (twoMWorks D fit) strand (x .a) base (x .inv) me hold-is-over (named all) true
       (legal-data D s me p₀ b v (x .k) (x .own .sender) (x .hold) all h)
   shut-newest theConfirmation h =
-      closed-conf D fit strand (x .a) base (x .inv) (me-lives D fit s me p b v j t) sender-free tt (named all) true
+      closed-conf D (OM.twoM D) (twoMWorks D fit) strand (x .a) base (x .inv) me hold-is-over (named all) true
       (legal-conf D s me p₀ b v (x .k) (x .own .sender) (x .hold) all h)
   shut-newest (theAbort q y) h =
       closed-code2 D (OM.twoM D) (twoMWorks D fit) strand (x .a) base (x .inv) q y (named all) true
