@@ -31,17 +31,18 @@ DeliveredOnce C w base i = (at : ℕ) × (w .receiver i .log ≡ record { at = a
 abbrev pub NotDelivered : (C : Class) → State C → (ℕ → List Note) → ℕ → Type 0
 NotDelivered C w base i = w .receiver i .log ≡ base i
 
-abbrev pub AllOrNone : (C : Class) → State C → (ℕ → List Note) → Type 0
-AllOrNone C w base =
-    ((i : ℕ) → Live w i → DeliveredOnce C w base i) ⊎ ((i : ℕ) → Live w i → NotDelivered C w base i)
+-- of the live receivers that have counted past the message
+abbrev pub AllOrNone : (S : Delays) (C : Class) → State C → (ℕ → List Note) → Type 0
+AllOrNone S C w base =
+    ((i : ℕ) → Live w i → Past S C w i → DeliveredOnce C w base i) ⊎ ((i : ℕ) → Live w i → Past S C w i → NotDelivered C w base i)
 
 -- What a class proves of itself. Cause: why a frame of code 2 became pending at a moment with these bytes. Slots: why each
 -- slot is as it is; its Boolean says whether a frame of code 2 had a full sending, its logs are those at the request.
 pub record Works (S : Delays) (C : Class) : Type 1 where
   pub Cause : State C → Moment → Bytes → Type 0
   pub Slots : State C → Bool → (ℕ → List Note) → Type 0
-  -- the hold is longer than the reaches of data and confirmation; an idle slot makes nothing pending at a tick
-  pub reaches : S .rd + S .dc ≤ C .hold
+  -- the hold is longer than the reaches of data and confirmation, and a drift; an idle slot makes nothing pending at a tick
+  pub reaches : S .rd + S .dc + S .e ≤ C .hold
   pub calm : (n : ℕ) → C .late n (C .idle) ≡ false
   pub readySome : (d : Sent) → C .Ready d → Some d
   pub doneSome : (d : Sent) → C .Done d → Some d
@@ -66,7 +67,7 @@ pub record Works (S : Delays) (C : Class) : Type 1 where
       → (i : ℕ) → Live w i → Past S C w i → w .receiver i .slot ≡ C .idle
   -- without two omissions: all or none
   pub judge : (w : State C) (a : Bool) (base : ℕ → List Note) → Books S C Cause w a → Slots w a base
-      → (Twice S C w → ⊥) → ((i : ℕ) → Live w i → Past S C w i) → AllOrNone C w base
+      → (Twice S C w → ⊥) → AllOrNone S C w base
   pub start : (w : State C) → w .dataSent ≡ never → w .confSent ≡ never → ((i : ℕ) → w .receiver i .frames ≡ [])
       → ((i : ℕ) → Live w i → w .receiver i .slot ≡ C .idle) → Slots w false (λ i. w .receiver i .log)
 
@@ -116,7 +117,7 @@ module _ (S : Delays) (C : Class) (W : Works S C) where
 
   module _ (Z : Strand C) (a : Bool) (base : ℕ → List Note) (v : Inv Z a base) where
     -- a common tick keeps every stretch as it was
-    stretch : (r : ℕ → Bool) → Common C Z r ⊎ Apart C S Z r → Apart C S Z r
+    pub stretch : (r : ℕ → Bool) → Common C Z r ⊎ Apart C S Z r → Apart C S Z r
     stretch r (inr x) = x
     stretch r (inl c) =
         record {
@@ -199,8 +200,8 @@ module _ (S : Delays) (C : Class) (W : Works S C) where
         go zero (f ∷ fs) m e = omega (arith, m .reach q, past-frame q lq (past lq) f (e .0) .0)
         go (suc k) (f ∷ fs) m e = go k fs m (e .1)
 
-    -- ── a module has counted past the hold: neither data nor confirmation may be sent any more ──
-    module _ (i : ℕ) (over : Z .state .requested i + C .hold < Z .state .now i) (hears : ℕ → Bool) (full : Bool) where
+    -- ── a module has counted past the message: neither data nor confirmation may be sent any more ──
+    module _ (i : ℕ) (over : Over S C (Z .state) i) (hears : ℕ → Bool) (full : Bool) where
       pub closed-data : Legal C S (Z .state) (sendData hears full) → ⊥
       unfolding Legal
       closed-data l = omega (arith, l .2 i, W .reaches)
@@ -254,7 +255,7 @@ module _ (S : Delays) (C : Class) (W : Works S C) where
           }
 
   -- ── whole histories ──
-  message-step : (w : State C) (e : Event) → step C w e .message ≡ w .message
+  pub message-step : (w : State C) (e : Event) → step C w e .message ≡ w .message
   unfolding step
   message-step w (sendData hears full) = refl
   message-step w (sendConf hears full) = refl

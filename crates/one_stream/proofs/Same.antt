@@ -19,12 +19,12 @@ module _ (S : Delays) (C : Class) (W : Works S C) where
 
   settled : (Z : Strand C) (a : Bool) (base : ℕ → List Note) → Inv S C W Z a base → SameBase Z base → OneOmission C (Z .state)
       → ((i : ℕ) → Live (Z .state) i → Past S C (Z .state) i) → SameList C Z
-  settled Z a base v s o p = go (W .judge (Z .state) a base (v .books) (v .slots) (not-twice S C (Z .state) o) p)
+  settled Z a base v s o p = go (W .judge (Z .state) a base (v .books) (v .slots) (not-twice S C (Z .state) o))
     where
-      go : AllOrNone C (Z .state) base → SameList C Z
+      go : AllOrNone S C (Z .state) base → SameList C Z
       go (inl h) i j x y =
-          ap payloads (h i x .1) ∙ (ap (λ l. Z .state .message ∷ l) (s i j x y) ∙ sym (ap payloads (h j y .1)))
-      go (inr h) i j x y = ap payloads (h i x) ∙ (s i j x y ∙ sym (ap payloads (h j y)))
+          ap payloads (h i x (p i x) .1) ∙ (ap (λ l. Z .state .message ∷ l) (s i j x y) ∙ sym (ap payloads (h j y (p j y) .1)))
+      go (inr h) i j x y = ap payloads (h i x (p i x)) ∙ (s i j x y ∙ sym (ap payloads (h j y (p j y))))
 
   -- an event that opens no message
   act-back : (Z : Strand C) (x : Act) → Stays x → (base : ℕ → List Note) → SameBase Z base → SameBase (act C Z x) base

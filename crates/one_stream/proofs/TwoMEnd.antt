@@ -204,8 +204,8 @@ module _ (S : Delays) (fit : Fit S) where
     all-if-full d c i l o =
         one-delivery i l o (λ t. no-flaw d c (sl .flawed t)) (full-some (w .confSent) c) (why-idle i l (inr o))
 
-    judge : ((i : ℕ) → Live w i → Past S (twoM S) w i) → AllOrNone (twoM S) w base
-    judge p = go (decide-some (w .dataSent)) all-or-none
+    judge : AllOrNone S (twoM S) w base
+    judge = go (decide-some (w .dataSent)) all-or-none
       where
         over : Some (w .dataSent) → (i : ℕ) → Past S (twoM S) w i → Over S (twoM S) w i
         over d i (inl n) = absurd (n d)
@@ -217,10 +217,10 @@ module _ (S : Delays) (fit : Fit S) where
         go : Some (w .dataSent) ⊎ (Some (w .dataSent) → ⊥)
             → ((i : ℕ) → Live w i → Over S (twoM S) w i → DeliveredAt S w base i)
             ⊎ ((i : ℕ) → Live w i → Over S (twoM S) w i → NotDelivered (twoM S) w base i)
-            → AllOrNone (twoM S) w base
-        go (inr n) x = inr (λ i l. no-delivery (inr (no-confirmation n)) i (why-idle i l (p i l)))
-        go (inl d) (inl all) = inl (λ i l. let z = all i l (over d i (p i l)) in (z .0 + S .dd + 1, z .2))
-        go (inl d) (inr none) = inr (λ i l. none i l (over d i (p i l)))
+            → AllOrNone S (twoM S) w base
+        go (inr n) x = inr (λ i l p. no-delivery (inr (no-confirmation n)) i (why-idle i l p))
+        go (inl d) (inl all) = inl (λ i l p. let z = all i l (over d i p) in (z .0 + S .dd + 1, z .2))
+        go (inl d) (inr none) = inr (λ i l p. none i l (over d i p))
 
   pub twoMWorks : Works S (twoM S)
   twoMWorks =

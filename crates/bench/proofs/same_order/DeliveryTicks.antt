@@ -6,7 +6,7 @@ use mathlib.Core.Logic.{_⊎_, inl, inr}
 use mathlib.Core.Bool.{Bool, true, false, not, _&&_}
 use mathlib.Core.List.{List, [], _∷_, _++_, map}
 use lib.ListN.{length}
-use lib.Dec.{T, eqb, eqb-refl, eqb→eq, T-not}
+use lib.Dec.{T, eqb, eqb→eq, T-not}
 use Rattle.wire.specs.declared.ids.Stream.{Stream}
 use Rattle.wire.specs.Identifiers.{streamOf}
 use Rattle.wire.specs.Settings.{receives, isPlain}
@@ -30,14 +30,18 @@ use Rattle.bench.specs.Events.{sentAgain, sentOnce, onFrame, onNewest, w
 use Rattle.bench.specs.Rules.{may, keepsSoFar}
 use Rattle.bench.specs.Demands.{liveReceiver, accepts, noneAccepted}
 use Rattle.bench.proofs.laws.SlotAfterCall.{Same, same-stream, hearing, ticking, tick-delivers, deliveryOf, onStream}
-use Rattle.bench.proofs.laws.ModuleAfterEvent.{hearsFrame, stepModule, module-step, moved-step, refused-asks, decide-stream, countOf, asFunction, count-is}
+use Rattle.bench.proofs.laws.ModuleAfterEvent.{hearsFrame, stepModule, module-step, moved-step, refused-asks, decide-stream, countOf, asFunction}
+use Rattle.bench.proofs.laws.ModuleAfterEvent.{count-is}
 use Rattle.bench.proofs.laws.BooksAfterEvent.{entering, books-given, books-sent, books-ticked, books-dead}
-use Rattle.bench.proofs.demand3.ModuleSeen.{toSent, toNote, notes, view}
-use Rattle.bench.proofs.demand3.SeenAfterOwnEvent.{Valid, valid-step, strandOf}
-use Rattle.bench.proofs.demand3.RulesSeen.{maySend, owner-lives, legal-data}
-use Rattle.bench.proofs.demand3.MessageKept.{Track}
-use Rattle.bench.proofs.demand3.ThroughHistory.{else-books, sends-elsewhere, Opens, track-step}
-use Rattle.bench.proofs.demand3.Judgement.{live-back, count-step}
+use Rattle.bench.proofs.laws.TicksCounted.{live-back, count-step}
+use Rattle.bench.proofs.message.SendingsSeen.{toSent}
+use Rattle.bench.proofs.message.ClassOnBench.{ClassOnBench}
+use Rattle.bench.proofs.message.ModuleSeen.{toNote, notes, view}
+use Rattle.bench.proofs.message.SeenAfterOwnEvent.{Valid, valid-step, strandOf}
+use Rattle.bench.proofs.message.RulesSeen.{maySend, owner-lives, legal-data}
+use Rattle.bench.proofs.message.MessageKept.{Track}
+use Rattle.bench.proofs.message.ThroughHistory.{else-books, sends-elsewhere, accepts-it, track-step}
+use Rattle.bench.proofs.two_message.TwoMessageOnBench.{twoMessage}
 use Rattle.bench.proofs.same_order.LogOrder.{heard-plain}
 use Rattle.one_stream.specs.Sendings as OS
 use Rattle.one_stream.specs.Classes as OC
@@ -118,8 +122,8 @@ data After (me : ℕ) (b : Bench) (k k′ : Book) : Type 0 where
   more-data : (OS.Some (confirmationOf k) → ⊥) → T (isLive me b) → (full : Bool) → dataOf k′ ≡ toSent (sentAgain (now b) full (k .payloadFrame .sendings))
       → After me b k k′
 
-module _ (D : OS.Delays) (fit : OM.Fit D) (s : Stream) (me : ℕ) (since : Moment) (p : List ℕ) (base : ℕ → List OC.Note) where
-  module _ (b : Bench) (v : Valid D s me b) (x : Track D fit s me since p base b) where
+module _ {n : ℕ} {D : OS.Delays} (K : ClassOnBench n D) (s : Stream) (me : ℕ) (since : Moment) (p : List ℕ) (base : ℕ → List OC.Note) where
+  module _ (b : Bench) (v : Valid n D s me b) (x : Track K s me since p base b) where
     abbrev Follows : Bench → Type 0
     Follows b′ = After me b (bookOf s 0 b) (bookOf s 0 b′)
 
@@ -147,7 +151,7 @@ module _ (D : OS.Delays) (fit : OM.Fit D) (s : Stream) (me : ℕ) (since : Momen
       where
         again : (w : Which) → T (maySend b s (x .k) w) → After me b (x .k) (onFrame w (sentOnce (now b) (isFull to)) (x .k))
         again thePayload t =
-            more-data (legal-data D s me p b v (x .k) (x .own .sender) (x .hold) to t .3)
+            more-data (legal-data K s me p b v (x .k) (x .own .sender) (x .hold) to t .3)
             (subst (λ i. T (isLive i b)) (x .own .sender) (owner-lives b s (x .k) thePayload t)) (isFull to) refl
         again theConfirmation t = no-data refl (λ c. some-again (now b) (isFull to) (x .k .confirmation .sendings))
         again (theAbort owner place) t = no-data refl (λ c. c)
@@ -163,12 +167,12 @@ module _ (D : OS.Delays) (fit : OM.Fit D) (s : Stream) (me : ℕ) (since : Momen
             (books-sent s b (v .ledger) 0 w to) (entered b′ (onFrame w (sentOnce (now b) (isFull to)) (x .k)) (again w t))
         newest (suc n) t = absurd (x .old n w t)
 
-    after-event : (e : Event) → (Opens s b e → ⊥) → T (may b e) → Follows (step b e)
+    after-event : (e : Event) → (T (accepts s b e) → ⊥) → T (may b e) → Follows (step b e)
     unfolding may
     after-event (asks j z q) shut m = go (decide-stream s z)
       where
         go : (s ≡ z) ⊎ (Same s z → ⊥) → Follows (step b (asks j z q))
-        go (inl e) = unchanged (step b (asks j z q)) (ap (booksOf s) (refused-asks b j z q (λ t. shut (e, t))))
+        go (inl e) = unchanged (step b (asks j z q)) (ap (booksOf s) (refused-asks b j z q (λ t. shut (accepts-it s b j z q e t))))
         go (inr other) = unchanged (step b (asks j z q)) (else-books s b (asks j z q) other)
     after-event (gives j z c) shut m = go (decide-stream s z)
       where
@@ -205,13 +209,14 @@ module _ (D : OS.Delays) (s : Stream) (me : ℕ) (p : List ℕ) (base : ℕ → 
 
   module _ (fit : OM.Fit D) (since : Moment) where
     -- at a live receiver the one-stream invariant says it
-    told-live : (b : Bench) (x : Track D fit s me since p base b) (i : ℕ) → T (liveReceiver s b i)
+    told-live : (b : Bench) (x : Track (twoMessage D fit) s me since p base b) (i : ℕ) → T (liveReceiver s b i)
         → (OS.Some (dataOf (x .k)) → OS.last (dataOf (x .k)) i ≡ OS.last (dataOf (x .k)) me) → Told (x .k) i (notes s (moduleAt i b .log))
-    unfolding view
-    told-live b x i live last = go (w .receiver i .slot) (slots-of D fit (strandOf D s me p b (x .k) (x .hold)) (x .a) base (x .inv) .each i live)
+    unfolding view twoMessage
+    told-live b x i live last =
+        go (w .receiver i .slot) (slots-of D fit (strandOf (twoMessage D fit) s me p b (x .k) (x .hold)) (x .a) base (x .inv) .each i live)
       where
         w : OC.State (OM.twoM D)
-        w = strandOf D s me p b (x .k) (x .hold) .state
+        w = strandOf (twoMessage D fit) s me p b (x .k) (x .hold) .state
 
         go : (y : OM.Slot) → SlotOk D w (x .a) i y (w .receiver i .frames) (notes s (moduleAt i b .log)) (base i) → Told (x .k) i (notes s (moduleAt i b .log))
         go OM.empty (untouched d c q) = not-yet q
@@ -221,8 +226,8 @@ module _ (D : OS.Delays) (s : Stream) (me : ℕ) (p : List ℕ) (base : ℕ → 
         go (OM.held t false y) (h, young, c) = not-yet (h .noDelivery)
         go (OM.held t true y) (h, young, c) = not-yet (h .noDelivery)
 
-    timed-step : (b : Bench) → Valid D s me b → Track D fit s me since p base b → (e : Event) → (Opens s b e → ⊥) → T (may b e)
-        → Track D fit s me since p base (step b e) → Timed b → Timed (step b e)
+    timed-step : (b : Bench) → Valid 2 D s me b → Track (twoMessage D fit) s me since p base b → (e : Event) → (T (accepts s b e) → ⊥) → T (may b e)
+        → Track (twoMessage D fit) s me since p base (step b e) → Timed b → Timed (step b e)
     timed-step b v x e shut m x′ z = record { even = even; last = last after; logs = λ i. logs i (log-step s b e i (v .nodes i)) }
       where
         k : Book
@@ -232,7 +237,7 @@ module _ (D : OS.Delays) (s : Stream) (me : ℕ) (p : List ℕ) (base : ℕ → 
         k′ = bookOf s 0 (step b e)
 
         after : After me b k k′
-        after = after-event D fit s me since p base b v x e shut m
+        after = after-event (twoMessage D fit) s me since p base b v x e shut m
 
         even : (i j : ℕ) → T (isLive i (step b e)) → T (isLive j (step b e)) → countOf (step b e) i ≡ countOf (step b e) j
         even i j l r = omega (arith, count-step b e i l, count-step b e j r, z .even i j (live-back b e i l) (live-back b e j r))
@@ -256,21 +261,14 @@ module _ (D : OS.Delays) (s : Stream) (me : ℕ) (p : List ℕ) (base : ℕ → 
             (subst (λ k. OS.Some (dataOf k) → OS.last (dataOf k) i ≡ OS.last (dataOf k) me) (sym newest)
             (λ some. last after some i (and-l (isLive i (step b e)) (isReceiver (slotAt s i (step b e))) live))))
 
-    not-opens : (b : Bench) (e : Event) → T (not (accepts s b e)) → Opens s b e → ⊥
-    not-opens b (asks j z q) n (e, t) =
-        T-not (accepts s b (asks j z q)) n (both (sameStream z s) (isAccepted j z q b) (subst (λ (y : Stream). T (sameStream y s)) e (eqb-refl (s .0))) t)
-    not-opens b (gives j z c) n o = o
-    not-opens b (sends z d w to) n o = o
-    not-opens b ticks n o = o
-    not-opens b (dies j) n o = o
-
     -- while no request of the stream is accepted
-    pub timed-run : (b : Bench) → Valid D s me b → Track D fit s me since p base b → (h r : List Event) → T (keepsSoFar b (h ++ r)) → T (noneAccepted s b h)
+    pub timed-run : (b : Bench) → Valid 2 D s me b → Track (twoMessage D fit) s me since p base b → (h r : List Event) → T (keepsSoFar b (h ++ r))
+        → T (noneAccepted s b h)
         → Timed b → Timed (run b h)
     timed-run b v x [] r k none z = z
     timed-run b v x (e ∷ es) r k none z =
         let m = and-l (may b e) (keepsSoFar (step b e) (es ++ r)) k in
-        let shut = not-opens b e (and-l (not (accepts s b e)) (noneAccepted s (step b e) es) none) in
-        let x′ = track-step D fit s me since p base b v x e shut m in
-        timed-run (step b e) (valid-step D s me b e v) x′ es r (and-r (may b e) (keepsSoFar (step b e) (es ++ r)) k)
+        let shut = T-not (accepts s b e) (and-l (not (accepts s b e)) (noneAccepted s (step b e) es) none) in
+        let x′ = track-step (twoMessage D fit) s me since p base b v x e shut m in
+        timed-run (step b e) (valid-step e v) x′ es r (and-r (may b e) (keepsSoFar (step b e) (es ++ r)) k)
         (and-r (not (accepts s b e)) (noneAccepted s (step b e) es) none) (timed-step b v x e shut m x′ z)

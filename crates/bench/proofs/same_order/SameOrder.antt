@@ -24,14 +24,15 @@ use Rattle.bench.specs.Demands.{tickCount, delivered, noneAccepted, Has,
 use Rattle.bench.proofs.laws.SlotAfterCall.{same-stream, onStream}
 use Rattle.bench.proofs.laws.ModuleAfterEvent.{stepModule, module-step, countOf}
 use Rattle.bench.proofs.laws.BooksAfterEvent.{books-asked}
-use Rattle.bench.proofs.demand3.ModuleSeen.{toSent, toNote, notes}
-use Rattle.bench.proofs.demand3.SeenAfterOwnEvent.{valid-step}
-use Rattle.bench.proofs.demand3.RulesSeen.{full-was}
-use Rattle.bench.proofs.demand3.RequestOpens.{logsOf}
-use Rattle.bench.proofs.demand3.Judgement.{live-back, count-step, count-run}
-use Rattle.bench.proofs.demand3.Demand3.{run-append}
 use Rattle.bench.proofs.laws.AtStart.{count-at-start}
-use Rattle.bench.proofs.demand3.AcceptedRequest.{Requested, requested}
+use Rattle.bench.proofs.laws.TicksCounted.{run-append, live-back, count-step, count-run}
+use Rattle.bench.proofs.message.SendingsSeen.{toSent, full-was}
+use Rattle.bench.proofs.message.ClassOnBench.{toDelays}
+use Rattle.bench.proofs.message.ModuleSeen.{toNote, notes}
+use Rattle.bench.proofs.message.SeenAfterOwnEvent.{valid-step}
+use Rattle.bench.proofs.message.RequestOpens.{logsOf}
+use Rattle.bench.proofs.message.AcceptedRequest.{Requested, requested}
+use Rattle.bench.proofs.two_message.TwoMessageOnBench.{fits, two-message}
 use Rattle.bench.proofs.same_order.LogOrder.{Earlier, receivesPlain, timedAt, in-order, log-order, earlier-before}
 use Rattle.bench.proofs.same_order.DeliveryTicks.{dataOf, Told, not-yet, told, Timed, timed-run}
 use Rattle.one_stream.specs.Sendings as OS
@@ -76,7 +77,7 @@ module _ (s : Stream) (d : Delivery) (rest : List Delivery) where
       go false own e later = let r = later e in (inr (r .0), r .1)
 
 -- ── one message: requested in b₁, seen in b₃ ──
-module _ (plan : Plan) (before since rest : List Event) (j : ℕ) (s : Stream) (p : List ℕ) (q : Requested plan before (since ++ rest) j s p) where
+module _ (plan : Plan) (before since rest : List Event) (j : ℕ) (s : Stream) (p : List ℕ) (q : Requested two-message plan before (since ++ rest) j s p) where
   abbrev b₀ : Bench
   b₀ = start plan
 
@@ -90,7 +91,7 @@ module _ (plan : Plan) (before since rest : List Event) (j : ℕ) (s : Stream) (
   b₃ = run b₂ since
 
   abbrev D : OS.Delays
-  D = q .D
+  D = toDelays (q .settings)
 
   -- no receiver of the stream receives it as plain frames
   is-timed : (i : ℕ) → T (timedAt plan i s)
@@ -116,7 +117,7 @@ module _ (plan : Plan) (before since rest : List Event) (j : ℕ) (s : Stream) (
 
     timed₃ : Timed D s j p (logsOf s b₁) b₃
     timed₃ =
-        timed-run D s j p (logsOf s b₁) (q .fit) (now b₁) b₂ (valid-step D s j b₁ (asks j s p) (q .at-request)) (q .track)
+        timed-run D s j p (logsOf s b₁) (fits s (q .settings) (q .of) (q .lawful)) (now b₁) b₂ (valid-step (asks j s p) (q .at-request)) (q .track)
         since rest (q .keeps-on) newest timed₂
 
     -- where its data was full, every module that delivers it does so dd + 1 ticks after the last sending of its data
@@ -142,13 +143,14 @@ record DeliversAt (plan : Plan) (h : List Event) (s : Stream) (t i : ℕ) (d : D
   tick : d .at ≡ t
 
 module _ (plan : Plan) (ok : T (proper plan)) (h : List Event) (keeps : T (keepsSoFar (start plan) h)) (m : Seen (start plan) h) where
-  its-request : Requested plan (m .before) (m .since ++ m .rest) (m .sender) (m .stream) (m .payload)
+  its-request : Requested two-message plan (m .before) (m .since ++ m .rest) (m .sender) (m .stream) (m .payload)
   its-request =
-      requested plan (m .before) (m .since ++ m .rest) (m .sender) (m .stream) (m .payload) ok (subst (λ l. T (keepsSoFar (start plan) l)) (m .split) keeps)
+      requested two-message plan (m .before) (m .since ++ m .rest) (m .sender) (m .stream) (m .payload) ok
+      (subst (λ l. T (keepsSoFar (start plan) l)) (m .split) keeps)
       (m .accepted) (m .twoMessage)
 
   its-tick : ℕ
-  its-tick = OS.last (dataOf (bookOf (m .stream) 0 (seenAt (start plan) h m))) (m .sender) + its-request .D .dd + 1
+  its-tick = OS.last (dataOf (bookOf (m .stream) 0 (seenAt (start plan) h m))) (m .sender) + its-request .settings .dd + 1
 
   delivers-at : DataFull (start plan) h m → (i : ℕ) (d : Delivery) → Delivers (start plan) h m i d → DeliversAt plan h (m .stream) its-tick i d
   unfolding its-tick
