@@ -32,7 +32,6 @@ use Rattle.bench.specs.Events.{Event, asks, gives, sends, ticks, dies, l
 use Rattle.bench.specs.Demands.{Has, Before}
 use Rattle.bench.proofs.laws.SlotAfterCall.{hearing, hear-counter, ticking, tick-counter, asking, ask-counter, giving, next-counter, deliveryOf}
 use Rattle.bench.proofs.laws.ModuleAfterEvent.{hearsFrame, stepModule, module-step, moved-step}
-use Rattle.bench.proofs.laws.RecordsAreDeliveries.{hear-writes}
 use Rattle.bench.proofs.message.PlanGives.{start-kept}
 use Rattle.bench.proofs.laws.AtStart.{log-at-start}
 
