@@ -1,4 +1,6 @@
 pub mod laws
+pub mod message
+pub mod two_message
 pub mod demand3
 pub mod other_traffic
 pub mod same_order

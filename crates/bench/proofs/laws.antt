@@ -3,6 +3,7 @@ pub mod SlotAfterCall
 pub mod ModuleAfterEvent
 pub mod BooksAfterEvent
 pub mod FramesOfBooks
+pub mod TicksCounted
 pub mod AtStart
 pub mod RecordsAreDeliveries
 pub mod ListPlaces

@@ -7,7 +7,6 @@ use lib.Seq.{take-append-seam}
 use Rattle.wire.specs.declared.ids.Stream.{Stream}
 use Rattle.wire.specs.declared.ids.BusId.{BusId}
 use Rattle.wire.specs.declared.settings.Settings.{Settings}
-use Rattle.wire.specs.declared.reply.Reply.{Reply}
 use Rattle.wire.specs.Delivered.{over}
 use Rattle.node.specs.declared.Node.{Node}
 use Rattle.node.specs.Nodes.{Outcome, noId}
@@ -25,7 +24,7 @@ use Rattle.node.proofs.tick.Cases.{tick-cases}
 use Rattle.node.proofs.request.Cases.{request-cases}
 use Rattle.node.proofs.rollover.SameAnswers.{same-answers}
 use Rattle.module.specs.declared.tally.Tally.{Tally}
-use Rattle.module.specs.Tallies.{countOf, talliedAll, occurrences, capped}
+use Rattle.module.specs.Tallies.{talliedAll, tallyOf}
 use Rattle.module.specs.Histories.{Module, freshModule, moduleStep, moduleAfterFrom, moduleAfter, repliesIn}
 use Rattle.module.specs.Histories.{Returned, Left, Promised, nodeIn, seen, Run, start, next}
 use Rattle.module.proofs.Counts.{counts-replies}
@@ -43,14 +42,13 @@ tally-from m (c ∷ cs) = tally-from (moduleStep c m) cs
 pub module-node : (calls : List Call) → moduleAfter calls .node ≡ after rolled calls
 module-node calls = node-from freshModule calls
 
--- each count is the number of such replies in the history
-pub module-counts : (calls : List Call) (r : Reply) → countOf r (moduleAfter calls .tally) ≡ capped (occurrences r (repliesIn (answers rolled calls)))
-module-counts calls r = ap (countOf r) (tally-from freshModule calls) ∙ counts-replies (repliesIn (answers rolled calls)) r
+-- its tally is that of the replies in the history
+pub module-tally : (calls : List Call) → moduleAfter calls .tally ≡ tallyOf (repliesIn (answers rolled calls))
+module-tally calls = tally-from freshModule calls ∙ counts-replies (repliesIn (answers rolled calls))
 
 -- and so with counts of ticks without bound
-pub module-counts-unbounded : (calls : List Call) (r : Reply)
-    → countOf r (moduleAfter calls .tally) ≡ capped (occurrences r (repliesIn (answers unbounded calls)))
-module-counts-unbounded calls r = module-counts calls r ∙ ap (λ (xs : List Answer). capped (occurrences r (repliesIn xs))) (same-answers calls)
+pub module-tally-unbounded : (calls : List Call) → moduleAfter calls .tally ≡ tallyOf (repliesIn (answers unbounded calls))
+module-tally-unbounded calls = module-tally calls ∙ ap (λ (xs : List Answer). tallyOf (repliesIn xs)) (same-answers calls)
 
 -- ── what a call that keeps its promise does ──
 -- the bytes that were written are at the front of what is left
@@ -121,11 +119,11 @@ run-end start = refl
 run-end {m} (next {cs = cs} c r left t p rest) = run-end rest ∙ ap (λ (n : Module). moduleAfterFrom n cs) (steps-so c m r left t p)
 
 -- From the fresh node and the zero tally: what was seen is what the definition says, with ticks counted without bound; the node is
--- the definition's; and each count is how often that reply was seen.
+-- the definition's; and the tally is that of the replies that were seen.
 pub record Faithful (calls : List Call) (xs : List Answer) (end : Module) : Type 0 where
   pub answered : xs ≡ answers unbounded calls
   pub node : end .node ≡ after rolled calls
-  pub counted : (r : Reply) → countOf r (end .tally) ≡ capped (occurrences r (repliesIn xs))
+  pub counted : end .tally ≡ tallyOf (repliesIn xs)
 
 pub every-history : {calls : List Call} {xs : List Answer} {end : Module} → Run freshModule calls xs end → Faithful calls xs end
 every-history {calls} {xs} {end} run =
@@ -134,7 +132,5 @@ every-history {calls} {xs} {end} run =
     record {
       answered = saw ∙ same-answers calls;
       node = ap (λ (m : Module). m .node) ends ∙ module-node calls;
-      counted = λ r.
-          ap (λ (m : Module). countOf r (m .tally)) ends
-          ∙ (module-counts calls r ∙ ap (λ (l : List Answer). capped (occurrences r (repliesIn l))) (sym saw));
+      counted = ap (λ (m : Module). m .tally) ends ∙ (module-tally calls ∙ ap (λ (l : List Answer). tallyOf (repliesIn l)) (sym saw));
     }

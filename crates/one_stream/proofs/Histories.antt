@@ -10,9 +10,9 @@ use Rattle.one_stream.specs.Frames.{Frame, At}
 use Rattle.one_stream.specs.Classes.{Note, Class, Receiver, State, Live, Event, sendData, sendConf, sendCode2, give, tick, die, step}
 use Rattle.one_stream.specs.Classes.{Legal}
 
--- The stream: its newest message with the receivers, whether one was ever requested, its sender, whether that lives, and
--- the sender's hold.
-pub record Line (C : Class) : Type 0 where
+-- A strand is what becomes of one stream: its newest message with the receivers, its sender, whether that lives, whether a message was
+-- ever requested, and the sender's hold.
+pub record Strand (C : Class) : Type 0 where
   pub state : State C
   pub sender : ℕ
   pub up : Bool
@@ -53,25 +53,25 @@ module _ (C : Class) where
         receiver = λ i. withoutFrames (w .receiver i);
       }
 
-  abbrev pub withState : State C → Line C → Line C
-  withState w L = record { state = w; sender = L .sender; up = L .up; begun = L .begun; hold = L .hold }
+  abbrev pub withState : State C → Strand C → Strand C
+  withState w Z = record { state = w; sender = Z .sender; up = Z .up; begun = Z .begun; hold = Z .hold }
 
   -- the sender's age of the message, when the counts are those
-  abbrev pub ageAt : Line C → (ℕ → ℕ) → ℕ
-  ageAt L now = now (L .sender) - L .state .requested (L .sender)
+  abbrev pub ageAt : Strand C → (ℕ → ℕ) → ℕ
+  ageAt Z now = now (Z .sender) - Z .state .requested (Z .sender)
 
-  unfoldable pub act : Line C → Act → Line C
-  act L (opens b) = record { state = opened b (L .state); sender = L .sender; up = L .up; begun = true; hold = true }
-  act L (ticks r) =
+  unfoldable pub act : Strand C → Act → Strand C
+  act Z (opens b) = record { state = opened b (Z .state); sender = Z .sender; up = Z .up; begun = true; hold = true }
+  act Z (ticks r) =
       record {
-        state = step C (L .state) (tick r);
-        sender = L .sender;
-        up = L .up;
-        begun = L .begun;
-        hold = L .hold && not (ltb (C .hold) (ageAt L (move r (L .state .now))));
+        state = step C (Z .state) (tick r);
+        sender = Z .sender;
+        up = Z .up;
+        begun = Z .begun;
+        hold = Z .hold && not (ltb (C .hold) (ageAt Z (move r (Z .state .now))));
       }
-  act L senderDies = record { state = L .state; sender = L .sender; up = false; begun = L .begun; hold = L .hold }
-  act L (on e) = withState (step C (L .state) e) L
+  act Z senderDies = record { state = Z .state; sender = Z .sender; up = false; begun = Z .begun; hold = Z .hold }
+  act Z (on e) = withState (step C (Z .state) e) Z
 
   -- ── rule 2: any two omissions of a message are one frame ──
   pub record OneOmission (w : State C) : Type 0 where
@@ -81,37 +81,37 @@ module _ (C : Class) where
     pub code2 : (q k q′ k′ : ℕ) → At Short k (w .receiver q .frames) → At Short k′ (w .receiver q′ .frames) → (q ≡ q′) × (k ≡ k′)
 
   -- a common tick reaches every live module
-  pub record Common (L : Line C) (r : ℕ → Bool) : Type 0 where
-    pub receivers : (i : ℕ) → Live (L .state) i → T (r i)
-    pub sender : T (L .up) → T (r (L .sender))
+  pub record Common (Z : Strand C) (r : ℕ → Bool) : Type 0 where
+    pub receivers : (i : ℕ) → Live (Z .state) i → T (r i)
+    pub sender : T (Z .up) → T (r (Z .sender))
 
   -- ticks that run apart: the counts of two live modules still differ by at most e over the stretch from the last sending
   -- of the data, and from the request
-  pub record Apart (S : Delays) (L : Line C) (r : ℕ → Bool) : Type 0 where
-    pub receivers : Some (L .state .dataSent) → (i j : ℕ) → Live (L .state) i → Live (L .state) j
-        → move r (L .state .now) i + last (L .state .dataSent) j ≤ move r (L .state .now) j + last (L .state .dataSent) i + S .e
-    pub sender : T (L .up) → (i : ℕ) → Live (L .state) i
-        → move r (L .state .now) (L .sender) + L .state .requested i ≤ move r (L .state .now) i + L .state .requested (L .sender) + S .e
+  pub record Apart (S : Delays) (Z : Strand C) (r : ℕ → Bool) : Type 0 where
+    pub receivers : Some (Z .state .dataSent) → (i j : ℕ) → Live (Z .state) i → Live (Z .state) j
+        → move r (Z .state .now) i + last (Z .state .dataSent) j ≤ move r (Z .state .now) j + last (Z .state .dataSent) i + S .e
+    pub sender : T (Z .up) → (i : ℕ) → Live (Z .state) i
+        → move r (Z .state .now) (Z .sender) + Z .state .requested i ≤ move r (Z .state .now) i + Z .state .requested (Z .sender) + S .e
 
-  abbrev pub MayAct : Delays → Line C → Act → Type 0
-  MayAct S L (opens b) = T (L .up) × T (not (L .hold))
-  MayAct S L (ticks r) = (Common L r ⊎ Apart S L r) × Legal C S (L .state) (tick r)
-  MayAct S L senderDies = Unit {0}
-  MayAct S L (on (sendData hears full)) = T (L .begun) × Legal C S (L .state) (sendData hears full)
-  MayAct S L (on (sendConf hears full)) = Legal C S (L .state) (sendConf hears full)
-  MayAct S L (on (sendCode2 q k hears full)) = Legal C S (L .state) (sendCode2 q k hears full)
-  MayAct S L (on (give q)) = Unit {0}
-  MayAct S L (on (tick r)) = ⊥
-  MayAct S L (on (die q)) = Unit {0}
+  abbrev pub MayAct : Delays → Strand C → Act → Type 0
+  MayAct S Z (opens b) = T (Z .up) × T (not (Z .hold))
+  MayAct S Z (ticks r) = (Common Z r ⊎ Apart S Z r) × Legal C S (Z .state) (tick r)
+  MayAct S Z senderDies = Unit {0}
+  MayAct S Z (on (sendData hears full)) = T (Z .begun) × Legal C S (Z .state) (sendData hears full)
+  MayAct S Z (on (sendConf hears full)) = Legal C S (Z .state) (sendConf hears full)
+  MayAct S Z (on (sendCode2 q k hears full)) = Legal C S (Z .state) (sendCode2 q k hears full)
+  MayAct S Z (on (give q)) = Unit {0}
+  MayAct S Z (on (tick r)) = ⊥
+  MayAct S Z (on (die q)) = Unit {0}
 
-  abbrev pub acts : Line C → List Act → Line C
-  acts L [] = L
-  acts L (x ∷ xs) = acts (act L x) xs
+  abbrev pub acts : Strand C → List Act → Strand C
+  acts Z [] = Z
+  acts Z (x ∷ xs) = acts (act Z x) xs
 
   -- the history keeps the bench rules 1, 3, 4 and the second half of 2 (the first half, OneOmission, is asked apart)
-  abbrev pub Keeps : Delays → Line C → List Act → Type 0
-  Keeps S L [] = Unit {0}
-  Keeps S L (x ∷ xs) = MayAct S L x × Keeps S (act L x) xs
+  abbrev pub Keeps : Delays → Strand C → List Act → Type 0
+  Keeps S Z [] = Unit {0}
+  Keeps S Z (x ∷ xs) = MayAct S Z x × Keeps S (act Z x) xs
 
   pub record IdleReceiver (r : Receiver C) : Type 0 where
     pub slot : r .slot ≡ C .idle
@@ -119,24 +119,24 @@ module _ (C : Class) where
     pub pending : r .pending ≡ false
 
   -- nothing requested, held, pending or sent
-  pub record Fresh (L : Line C) : Type 0 where
-    pub notBegun : L .begun ≡ false
-    pub noData : L .state .dataSent ≡ never
-    pub noConf : L .state .confSent ≡ never
-    pub same : (i : ℕ) → L .state .requested i ≡ L .state .now i
-    pub idle : (i : ℕ) → IdleReceiver (L .state .receiver i)
+  pub record Fresh (Z : Strand C) : Type 0 where
+    pub notBegun : Z .begun ≡ false
+    pub noData : Z .state .dataSent ≡ never
+    pub noConf : Z .state .confSent ≡ never
+    pub same : (i : ℕ) → Z .state .requested i ≡ Z .state .now i
+    pub idle : (i : ℕ) → IdleReceiver (Z .state .receiver i)
 
   -- the module has counted n ticks and one more since the message was requested
-  abbrev pub Counted : ℕ → Line C → ℕ → Type 0
-  Counted n L i = L .state .requested i + n < L .state .now i
+  abbrev pub Counted : ℕ → Strand C → ℕ → Type 0
+  Counted n Z i = Z .state .requested i + n < Z .state .now i
 
   -- rule 2 at the end of every message: when the next request is accepted, and when the history ends
-  abbrev pub EachOnce : Line C → List Act → Type 0
-  EachOnce L [] = OneOmission (L .state)
-  EachOnce L (opens b ∷ xs) = OneOmission (L .state) × EachOnce (act L (opens b)) xs
-  EachOnce L (ticks r ∷ xs) = EachOnce (act L (ticks r)) xs
-  EachOnce L (senderDies ∷ xs) = EachOnce (act L senderDies) xs
-  EachOnce L (on e ∷ xs) = EachOnce (act L (on e)) xs
+  abbrev pub EachOnce : Strand C → List Act → Type 0
+  EachOnce Z [] = OneOmission (Z .state)
+  EachOnce Z (opens b ∷ xs) = OneOmission (Z .state) × EachOnce (act Z (opens b)) xs
+  EachOnce Z (ticks r ∷ xs) = EachOnce (act Z (ticks r)) xs
+  EachOnce Z (senderDies ∷ xs) = EachOnce (act Z senderDies) xs
+  EachOnce Z (on e ∷ xs) = EachOnce (act Z (on e)) xs
 
 -- what a log hands over
 abbrev pub payloads : List Note → List Bytes
@@ -144,7 +144,7 @@ payloads [] = []
 payloads (n ∷ l) = n .bytes ∷ payloads l
 
 -- any two live receivers have handed over the same list
-abbrev pub SameList : (C : Class) → Line C → Type 0
-SameList C L =
-    (i j : ℕ) → Live (L .state) i → Live (L .state) j
-    → payloads (L .state .receiver i .log) ≡ payloads (L .state .receiver j .log)
+abbrev pub SameList : (C : Class) → Strand C → Type 0
+SameList C Z =
+    (i j : ℕ) → Live (Z .state) i → Live (Z .state) j
+    → payloads (Z .state .receiver i .log) ≡ payloads (Z .state .receiver j .log)

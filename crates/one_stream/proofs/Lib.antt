@@ -7,7 +7,6 @@ pub mod Twice
 pub mod Books
 pub mod Chain
 pub mod Same
-pub mod View
 pub mod TwoMWhy
 pub mod TwoMSteps
 pub mod TwoMEnd

@@ -4,7 +4,7 @@ use Prim.Native.Nat.{ℕ, _+_, _≤_, _<_}
 use native.Mathlib.Omega.{arith}
 use mathlib.Core.Path.{_≡_, refl, subst}
 use mathlib.Core.Logic.{_⊎_, inl, inr}
-use mathlib.Core.Bool.{Bool, true, false, not, _||_}
+use mathlib.Core.Bool.{Bool, true, false, _||_}
 use mathlib.Core.List.{List, [], _∷_}
 use lib.Dec.{T}
 use Rattle.one_stream.proofs.Truth.{decide}
@@ -14,10 +14,10 @@ use Rattle.one_stream.proofs.Sendings.{decide-full, decide-some, DataTi
 use Rattle.one_stream.specs.Frames.{Frame, Each, Any, NonEmpty}
 use Rattle.one_stream.specs.Classes.{Note, State, Live, Event, sendData, sendConf, sendCode2, give, tick, die, step, Legal}
 use Rattle.one_stream.proofs.Events.{fullOf, causes, live-before}
-use Rattle.one_stream.proofs.Histories.{Line}
+use Rattle.one_stream.proofs.Histories.{Strand}
 use Rattle.one_stream.proofs.Twice.{Lost, AnyLost, Twice, dataConf, dataCode2, confCode2}
 use Rattle.one_stream.proofs.Books.{Paced, Times, FrameOk, Books}
-use Rattle.one_stream.proofs.Chain.{Over, Past, NotDelivered, AllOrNone, Works, Inv, hold-over}
+use Rattle.one_stream.proofs.Chain.{Over, Past, NotDelivered, AllOrNone, Works, Inv}
 use Rattle.one_stream.specs.TwoM.{Fit, Slot, empty, held, twoM}
 use Rattle.one_stream.proofs.TwoMWhy.{WasSent, World, Flaw, When, refused, timedOut, Cause, Why, untouched, gaveAbort, heardAbort}
 use Rattle.one_stream.proofs.TwoMWhy.{delivered, SlotOk, Slots}
@@ -204,8 +204,8 @@ module _ (S : Delays) (fit : Fit S) where
     all-if-full d c i l o =
         one-delivery i l o (λ t. no-flaw d c (sl .flawed t)) (full-some (w .confSent) c) (why-idle i l (inr o))
 
-    judge : ((i : ℕ) → Live w i → Past S (twoM S) w i) → AllOrNone (twoM S) w base
-    judge p = go (decide-some (w .dataSent)) all-or-none
+    judge : AllOrNone S (twoM S) w base
+    judge = go (decide-some (w .dataSent)) all-or-none
       where
         over : Some (w .dataSent) → (i : ℕ) → Past S (twoM S) w i → Over S (twoM S) w i
         over d i (inl n) = absurd (n d)
@@ -217,21 +217,25 @@ module _ (S : Delays) (fit : Fit S) where
         go : Some (w .dataSent) ⊎ (Some (w .dataSent) → ⊥)
             → ((i : ℕ) → Live w i → Over S (twoM S) w i → DeliveredAt S w base i)
             ⊎ ((i : ℕ) → Live w i → Over S (twoM S) w i → NotDelivered (twoM S) w base i)
-            → AllOrNone (twoM S) w base
-        go (inr n) x = inr (λ i l. no-delivery (inr (no-confirmation n)) i (why-idle i l (p i l)))
-        go (inl d) (inl all) = inl (λ i l. let z = all i l (over d i (p i l)) in (z .0 + S .dd + 1, z .2))
-        go (inl d) (inr none) = inr (λ i l. none i l (over d i (p i l)))
+            → AllOrNone S (twoM S) w base
+        go (inr n) x = inr (λ i l p. no-delivery (inr (no-confirmation n)) i (why-idle i l p))
+        go (inl d) (inl all) = inl (λ i l p. let z = all i l (over d i p) in (z .0 + S .dd + 1, z .2))
+        go (inl d) (inr none) = inr (λ i l p. none i l (over d i p))
 
   pub twoMWorks : Works S (twoM S)
   twoMWorks =
       record {
         Cause = Cause S;
         Slots = Slots S;
+        reaches = omega (arith, fit .deliverAfterAbort);
+        calm = λ n. refl;
+        readySome = λ d x. x;
         doneSome = λ d x. x;
         doneKeep = λ now full d nf n x. n (some-resend now full d);
         causeKeep = cause-keep;
         causeNew = cause-new;
         causeData = λ w t m c. flaw-data w (c .flaw);
+        causeBytes = λ w t m c. c .bytes;
         causeOver = cause-over;
         keep = keep;
         idle = λ w a base b s i live p. idle-slot w a base b i (w .receiver i .slot) (s .each i live) p;
@@ -240,26 +244,11 @@ module _ (S : Delays) (fit : Fit S) where
       }
 
   -- what the invariant of a whole history says of 2M
-  module _ (L : Line (twoM S)) (a : Bool) (base : ℕ → List Note) (v : Inv S (twoM S) twoMWorks L a base) where
-    pub books-of : Books S (twoM S) (Cause S) (L .state) a
+  module _ (Z : Strand (twoM S)) (a : Bool) (base : ℕ → List Note) (v : Inv S (twoM S) twoMWorks Z a base) where
+    pub books-of : Books S (twoM S) (Cause S) (Z .state) a
     unfolding twoMWorks
     books-of = v .books
 
-    pub slots-of : Slots S (L .state) a base
+    pub slots-of : Slots S (Z .state) a base
     unfolding twoMWorks
     slots-of = v .slots
-
-    -- a live sender without a hold: neither data nor confirmation may be sent any more
-    module _ (up : T (L .up)) (free : T (not (L .hold))) (begun : T (L .begun)) (hears : ℕ → Bool) (full : Bool) where
-      pub closed-data : Legal (twoM S) S (L .state) (sendData hears full) → ⊥
-      unfolding Legal
-      closed-data l =
-          omega (arith, l .2 (L .sender), hold-over S (twoM S) twoMWorks L a base v up free begun)
-
-      pub closed-conf : Legal (twoM S) S (L .state) (sendConf hears full) → ⊥
-      unfolding Legal
-      closed-conf l =
-          let i = L .sender in
-          let t = books-of .times .sentData (l .2) in
-          let o = hold-over S (twoM S) twoMWorks L a base v up free begun in
-          omega (arith, l .3 i, o, t .order i, t .reach i, fit .deliverAfterAbort)

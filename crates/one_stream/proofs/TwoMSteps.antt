@@ -73,7 +73,7 @@ module _ (S : Delays) (w : World S) (now′ : Moment) (recv′ : ℕ → Receive
   later-when t (timedOut c x) = timedOut (later-confFlaw c) (λ i l. x i (live-before i l))
 
   pub later-cause : (t : Moment) (m : Bytes) → Cause S w t m → Cause S (later S w now′ recv′) t m
-  later-cause t m c = record { flaw = later-flaw (c .flaw); when = later-when t (c .when) }
+  later-cause t m c = record { flaw = later-flaw (c .flaw); when = later-when t (c .when); bytes = c .bytes }
 
   module _ (a : Bool) (i : ℕ) (grow : (q : ℕ) → Any WasSent (w .receiver q .frames) → Any WasSent (recv′ q .frames))
       (tw : Twice S (twoM S) w → Twice S (twoM S) (later S w now′ recv′)) where
@@ -224,7 +224,7 @@ module _ (S : Delays) (fit : Fit S) (w : World S) (a : Bool) (base : ℕ → Lis
     conf-when t (timedOut c x) = absurd (notOver c)
 
     pub conf-cause : (t : Moment) (m : Bytes) → Cause S w t m → Cause S w-conf t m
-    conf-cause t m c = record { flaw = conf-flaw (c .flaw); when = conf-when t (c .when) }
+    conf-cause t m c = record { flaw = conf-flaw (c .flaw); when = conf-when t (c .when); bytes = c .bytes }
 
     -- the flaw that makes an empty slot answer with an abort
     empty-flaw : (i : ℕ) (fs : List Frame) (log : List Note) (v : Bool) → Each (FrameOk S (twoM S) (Cause S) w a v) fs
@@ -247,6 +247,7 @@ module _ (S : Delays) (fit : Fit S) (w : World S) (a : Bool) (base : ℕ → Lis
           flaw = empty-flaw i (w .receiver i .frames) (w .receiver i .log) (w .receiver i .live) (bk .frames i) k
               .0;
           when = refused reach;
+          bytes = refl;
         }
     conf-new i (held s c b) lv k t = absurd t
 
@@ -574,6 +575,7 @@ module _ (S : Delays) (fit : Fit S) (w : World S) (a : Bool) (base : ℕ → Lis
                 (live-before S (twoM S) w (tick reached) j lj) lv,
             k .stamped .high,
           ));
+          bytes = refl;
         }
 
     pub tickNew : Paced S (twoM S) w (tick reached) → (i : ℕ) → T (causes S (twoM S) w (tick reached) i)

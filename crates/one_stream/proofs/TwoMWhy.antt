@@ -3,7 +3,7 @@ use Prim.Native.Nat.{ℕ, _+_, _≤_, _<_}
 use mathlib.Core.Path.{_≡_}
 use mathlib.Core.Logic.{_⊎_}
 use mathlib.Core.Bool.{Bool, true, false}
-use mathlib.Core.List.{List, _∷_}
+use mathlib.Core.List.{List, [], _∷_}
 use lib.Dec.{T}
 use Rattle.one_stream.specs.Sendings.{Bytes, Moment, Delays, Some, Full, Omitted, first, last, Within}
 use Rattle.one_stream.proofs.Sendings.{Stamped}
@@ -43,6 +43,7 @@ module _ (S : Delays) where
   pub record Cause (w : World) (t : Moment) (m : Bytes) : Type 0 where
     pub flaw : Flaw w
     pub when : When w t
+    pub bytes : m ≡ []
 
   -- why a slot holds nothing
   pub data Why (w : World) (a : Bool) (i : ℕ) (fs : List Frame) (log base : List Note) : Type 0 where

@@ -24,10 +24,11 @@ pub record Class : Type 1 where
   pub onGiven : Slot → Slot
   pub onFull : ℕ → Slot → Slot
   pub onTick : ℕ → Slot → Slot
-  -- a frame of code 2 becomes pending: at a confirmation, at a tick; its payload
+  -- a frame of code 2 becomes pending: at a confirmation, at a tick; its payload, and what that is of the message
   pub refuses : Slot → Bool
   pub late : ℕ → Slot → Bool
   pub payload : Slot → Bytes
+  pub carried : Bytes → Bytes
   -- caused again while pending it is the same frame (else it takes the pending one's place)
   pub merges : Bool
   -- the tick delivers; what it delivers

@@ -64,6 +64,7 @@ twoM S =
       refuses = isEmpty;
       late = late S;
       payload = λ s. [];
+      carried = λ m. [];
       merges = true;
       due = due S;
       held = bytesOf;

@@ -2,118 +2,142 @@
 -- message once since then, or none has; and all, if its data and its confirmation each had a full sending.
 use Prim.Native.Nat.{ℕ, _+_, _<_}
 use native.Mathlib.Omega.{arith}
-use mathlib.Core.Path.{_≡_, refl, ap, sym, subst, _∙_}
-use mathlib.Core.List.{List, [], _∷_, _++_}
+use mathlib.Core.Path.{_≡_, refl, ap, sym, subst}
+use mathlib.Core.Logic.{_⊎_, inl, inr}
+use mathlib.Core.Bool.{not}
+use mathlib.Core.List.{List, [], _∷_, _++_, append-assoc}
 use lib.Dec.{T}
 use Rattle.wire.specs.declared.ids.Stream.{Stream}
 use Rattle.wire.specs.Settings.{isTwoMessage}
-use Rattle.one_stream.proofs.Truth.{and-l, and-r}
-use Rattle.bench.specs.Bench.{Bench, isLive, slotAt, now}
-use Rattle.bench.specs.Demands.{Judged, Demand3, atRequest, atJudgement, tickCount}
+use Rattle.one_stream.proofs.Truth.{and-l, and-r, both}
+use Rattle.one_stream.specs.Sendings as OS
+use Rattle.bench.specs.Bench.{Bench, isLive, slotAt, now, bookOf}
+use Rattle.bench.specs.SetUp.{Plan, proper, start}
 use Rattle.bench.specs.Events.{Event, asks, ticks, step, run, isAccepted}
-use Rattle.bench.specs.Rules.{may, keepsSoFar, keeps}
-use Rattle.bench.specs.SetUp.{Plan, proper, start, accepted}
+use Rattle.bench.specs.Rules.{keepsSoFar, oneOmission, wasFull}
+use Rattle.bench.specs.Demands.{tickCount, delivered, liveReceiver, accepts, noneAccepted, Judged, atRequest, atJudgement, Demand3}
 use Rattle.bench.proofs.laws.ModuleAfterEvent.{countOf, count-is}
-use Rattle.bench.proofs.demand3.ModuleSeen.{toDelays}
-use Rattle.bench.proofs.demand3.AcceptedRequest.{Requested, requested}
-use Rattle.bench.proofs.demand3.SeenAfterOwnEvent.{Valid, valid-step}
-use Rattle.bench.proofs.demand3.MessageKept.{Track, track-tick}
-use Rattle.bench.proofs.demand3.RequestOpens.{logsOf}
-use Rattle.bench.proofs.demand3.Judgement.{live-back, count-step, count-run, window, judged-all-or-none, judged-all-if-full}
-use Rattle.one_stream.specs.Sendings as LS
-use Rattle.one_stream.specs.TwoM as LM
+use Rattle.bench.proofs.laws.TicksCounted.{run-append, count-step, count-run}
+use Rattle.bench.proofs.message.ClassOnBench.{toDelays, ClassOnBench}
+use Rattle.bench.proofs.message.SeenAfterOwnEvent.{Valid, valid-step}
+use Rattle.bench.proofs.message.MessageKept.{Track}
+use Rattle.bench.proofs.message.RequestOpens.{logsOf}
+use Rattle.bench.proofs.message.Judgement.{none-while-held, until-next, Judges, DeliveredOnce, DeliveredNot, judged-all-or-none}
+use Rattle.bench.proofs.message.AcceptedRequest.{Requested, requested}
+use Rattle.bench.proofs.two_message.TwoMessageOnBench.{fits, twoMessage, two-message}
+use Rattle.bench.proofs.two_message.AllIfFull.{judged-all-if-full}
 
--- ── histories ──
-pub run-append : (xs ys : List Event) (b : Bench) → run b (xs ++ ys) ≡ run (run b xs) ys
-run-append [] ys b = refl
-run-append (e ∷ es) ys b = run-append es ys (step b e)
+-- a tick accepts no request
+none-and-tick : (s : Stream) (b : Bench) (h : List Event) → T (noneAccepted s b h) → T (noneAccepted s b (h ++ (ticks ∷ [])))
+none-and-tick s b [] none = tt
+none-and-tick s b (e ∷ es) none =
+    both (not (accepts s b e)) (noneAccepted s (step b e) (es ++ (ticks ∷ []))) (and-l (not (accepts s b e)) (noneAccepted s (step b e) es) none)
+    (none-and-tick s (step b e) es (and-r (not (accepts s b e)) (noneAccepted s (step b e) es) none))
 
--- ── a message of a history: everything that is known of it when it is judged ──
-pub record Known (s : Stream) (p : List ℕ) (b₁ b₃ : Bench) : Type 0 where
-  pub D : LS.Delays
-  pub fit : LM.Fit D
-  pub me : ℕ
-  pub common : D .e ≡ 0
-  pub valid : Valid D s me b₃
-  pub track : Track D fit s me (now b₁) p (logsOf s b₁) b₃
-  pub counted : (i : ℕ) → T (isLive i b₃) → countOf b₁ i + D .rd + D .dd < countOf b₃ i
+count-and-tick : (h : List Event) → tickCount (h ++ (ticks ∷ [])) ≡ tickCount h + 1
+count-and-tick [] = refl
+count-and-tick (e ∷ es) = omega (arith, count-and-tick es)
 
+-- ── a message of a history: requested in b₁, judged in b₃ ──
 module _ (plan : Plan) (ok : T (proper plan)) (before since rest : List Event) (j : ℕ) (s : Stream) (p : List ℕ) where
-  abbrev b₀ : Bench
-  b₀ = start plan
-
   abbrev b₁ : Bench
-  b₁ = run b₀ before
+  b₁ = run (start plan) before
 
   abbrev b₂ : Bench
   b₂ = step b₁ (asks j s p)
 
-  abbrev b₃ : Bench
-  b₃ = step (run b₂ since) ticks
+  abbrev pub b₃ : Bench
+  b₃ = run b₂ (since ++ (ticks ∷ []))
 
-  module _ (keeps : T (keepsSoFar b₀ (before ++ (asks j s p ∷ (since ++ (ticks ∷ rest)))))) (accepted : T (isAccepted j s p b₁))
+  module _ (keeps : T (keepsSoFar (start plan) (before ++ (asks j s p ∷ (since ++ (ticks ∷ rest)))))) (accepted : T (isAccepted j s p b₁))
       (two : T (isTwoMessage (slotAt s j b₁ .settings)))
       (long : tickCount since ≡ slotAt s j b₁ .settings .rd + slotAt s j b₁ .settings .dd) where
-    q : Requested plan before (since ++ (ticks ∷ rest)) j s p
-    q = requested plan before (since ++ (ticks ∷ rest)) j s p ok keeps accepted two
+    pub q : Requested two-message plan before (since ++ (ticks ∷ rest)) j s p
+    q = requested two-message plan before (since ++ (ticks ∷ rest)) j s p ok keeps accepted two
 
-    abbrev D₀ : LS.Delays
-    D₀ = q .D
+    abbrev pub D : OS.Delays
+    D = toDelays (q .settings)
 
-    numbers : toDelays (slotAt s j b₁ .settings) ≡ D₀
+    abbrev pub K : ClassOnBench 2 D
+    K = two-message s (q .settings) (q .of) (q .lawful)
+
+    numbers : toDelays (slotAt s j b₁ .settings) ≡ D
     numbers = q .at-request .sender .1 .numbers
 
-    long₀ : tickCount since ≡ D₀ .rd + D₀ .dd
-    long₀ = long ∙ ap (λ (d : LS.Delays). d .rd + d .dd) numbers
+    hold-is : K .C .hold ≡ tickCount since
+    unfolding twoMessage
+    hold-is = omega (arith, long, ap (λ (d : OS.Delays). d .rd) numbers, ap (λ (d : OS.Delays). d .dd) numbers)
 
-    r₂ : Valid D₀ s j (run b₂ since) × Track D₀ (q .fit) s j (now b₁) p (logsOf s b₁) (run b₂ since)
-        × T (keepsSoFar (run b₂ since) (ticks ∷ rest))
-    r₂ =
-        window D₀ (q .fit) s j (now b₁) p (logsOf s b₁) b₂ (valid-step D₀ s j b₁ (asks j s p) (q .at-request)) (q .track) since (ticks ∷ rest)
-        (q .keeps-on)
-        (λ l. omega (arith, long₀, count-step b₁ (asks j s p) j l, count-is j (b₁ .modules)))
+    at-request : Valid 2 D s j b₂
+    at-request = valid-step (asks j s p) (q .at-request)
 
-    may-tick : T (may (run b₂ since) ticks)
-    may-tick = and-l (may (run b₂ since) ticks) (keepsSoFar b₃ rest) (r₂ .2)
+    none : T (noneAccepted s b₂ since)
+    none =
+        none-while-held K s j (now b₁) p (logsOf s b₁) b₂ at-request (q .track) since (ticks ∷ rest) (q .keeps-on)
+        (λ l. omega (arith, hold-is, count-step b₁ (asks j s p) j l, count-is j (b₁ .modules)))
 
-    pub known : Known s p b₁ b₃
+    pub known : Valid 2 D s j b₃ × Track K s j (now b₁) p (logsOf s b₁) b₃ × T (keepsSoFar b₃ rest)
     known =
-        record {
-          D = D₀;
-          fit = q .fit;
-          me = j;
-          common = sym (ap (λ (d : LS.Delays). d .e) numbers);
-          valid = valid-step D₀ s j (run b₂ since) ticks (r₂ .0);
-          track = track-tick D₀ (q .fit) s j (now b₁) p (logsOf s b₁) (run b₂ since) (r₂ .0) (r₂ .1) may-tick;
-          counted = λ i l.
-              let c₂ = count-run since b₂ i (live-back (run b₂ since) ticks i l) in
-              omega (arith, count-step (run b₂ since) ticks i l, c₂ .0, count-step b₁ (asks j s p) i (c₂ .1), long₀);
-        }
+        until-next K s j (now b₁) p (logsOf s b₁) b₂ at-request (q .track) (since ++ (ticks ∷ [])) rest
+        (subst (λ h. T (keepsSoFar b₂ h)) (sym (append-assoc since (ticks ∷ []) rest)) (q .keeps-on)) (none-and-tick s b₂ since none)
 
-    pub known-rest : T (keepsSoFar b₃ rest)
-    known-rest = and-r (may (run b₂ since) ticks) (keepsSoFar b₃ rest) (r₂ .2)
+    pub counted : (i : ℕ) → T (isLive i b₃) → countOf b₁ i + K .C .hold < countOf b₃ i
+    counted i l =
+        let c = count-run (since ++ (ticks ∷ [])) b₂ i l in
+        omega (arith, c .0, count-and-tick since, count-step b₁ (asks j s p) i (c .1), hold-is)
+
+    abbrev x : Track K s j (now b₁) p (logsOf s b₁) b₃
+    x = known .1
+
+    judges : (i : ℕ) → T (liveReceiver s b₃ i) → Judges K s j p b₁ b₃ x i
+    judges i l = record { receiver = l; counted = omega (arith, counted i (and-l (isLive i b₃) _ l)) }
+
+    module _ (rule2 : T (oneOmission (bookOf s 0 b₃))) where
+      abbrev AllLive : (ℕ → Type 0) → Type 0
+      AllLive P = (i : ℕ) → T (liveReceiver s b₃ i) → P i
+
+      pub all-or-none : AllLive (DeliveredOnce K s j p b₁ b₃ x) ⊎ AllLive (DeliveredNot K s j p b₁ b₃ x)
+      all-or-none = go (judged-all-or-none K s j p b₁ b₃ x rule2)
+        where
+          go : ((i : ℕ) → Judges K s j p b₁ b₃ x i → DeliveredOnce K s j p b₁ b₃ x i) ⊎ ((i : ℕ) → Judges K s j p b₁ b₃ x i → DeliveredNot K s j p b₁ b₃ x i)
+              → AllLive (DeliveredOnce K s j p b₁ b₃ x) ⊎ AllLive (DeliveredNot K s j p b₁ b₃ x)
+          go (inl all) = inl (λ i l. all i (judges i l))
+          go (inr none) = inr (λ i l. none i (judges i l))
+
+      pub all-if-full : T (wasFull (bookOf s 0 b₃ .payloadFrame)) → T (wasFull (bookOf s 0 b₃ .confirmation)) → AllLive (DeliveredOnce K s j p b₁ b₃ x)
+      all-if-full d c i l = judged-all-if-full D (fits s (q .settings) (q .of) (q .lawful)) s j p b₁ b₃ x rule2 d c i (judges i l)
 
 -- where the message is judged
 pub judged-bench : (b₀ : Bench) (h : List Event) (m : Judged b₀ h)
-    → atJudgement b₀ h m ≡ step (run (step (atRequest b₀ h m) (asks (m .sender) (m .stream) (m .payload))) (m .since)) ticks
-judged-bench b₀ h m =
-    run-append (m .before) (asks (m .sender) (m .stream) (m .payload) ∷ (m .since ++ (ticks ∷ []))) b₀
-    ∙ run-append (m .since) (ticks ∷ []) (step (run b₀ (m .before)) (asks (m .sender) (m .stream) (m .payload)))
-
-pub judged-known : (plan : Plan) → T (proper plan) → (h : List Event) → T (keepsSoFar (start plan) h) → (m : Judged (start plan) h)
-    → Known (m .stream) (m .payload) (atRequest (start plan) h m) (atJudgement (start plan) h m)
-judged-known plan ok h k m =
-    subst (Known (m .stream) (m .payload) (atRequest (start plan) h m)) (sym (judged-bench (start plan) h m))
-    (known plan ok (m .before) (m .since) (m .rest) (m .sender) (m .stream) (m .payload) (subst (λ l. T (keepsSoFar (start plan) l)) (m .split) k)
-    (m .accepted) (m .twoMessage) (m .long))
+    → atJudgement b₀ h m ≡ run (step (atRequest b₀ h m) (asks (m .sender) (m .stream) (m .payload))) (m .since ++ (ticks ∷ []))
+judged-bench b₀ h m = run-append (m .before) (asks (m .sender) (m .stream) (m .payload) ∷ (m .since ++ (ticks ∷ []))) b₀
 
 -- DEMAND 3
 pub demand3 : Demand3
 demand3 plan ok h k m rule2 =
-    let g = judged-known plan ok h k m in
-    let b₁ = atRequest (start plan) h m in
-    let b₃ = atJudgement (start plan) h m in
+    let keeps = subst (λ l. T (keepsSoFar (start plan) l)) (m .split) k in
+    let rule2₃ = subst (λ b. T (oneOmission (bookOf (m .stream) 0 b))) (judged-bench (start plan) h m) rule2 in
     record {
-      allOrNone = judged-all-or-none (g .D) (g .fit) (m .stream) (g .me) (m .payload) b₁ b₃ (g .track) (g .counted) rule2 (g .common);
-      allIfFull = judged-all-if-full (g .D) (g .fit) (m .stream) (g .me) (m .payload) b₁ b₃ (g .track) (g .counted) rule2 (g .common);
+      allOrNone = subst (λ b. AllOrNoneIn b) (sym (judged-bench (start plan) h m))
+          (all-or-none plan ok (m .before) (m .since) (m .rest) (m .sender) (m .stream) (m .payload) keeps (m .accepted) (m .twoMessage) (m .long) rule2₃);
+      allIfFull = subst (λ b. AllIfFullIn b) (sym (judged-bench (start plan) h m))
+          (all-if-full plan ok (m .before) (m .since) (m .rest) (m .sender) (m .stream) (m .payload) keeps (m .accepted) (m .twoMessage) (m .long) rule2₃);
     }
+  where
+    s : Stream
+    s = m .stream
+
+    b₁ : Bench
+    b₁ = atRequest (start plan) h m
+
+    Once : Bench → ℕ → Type 0
+    Once b i = (t : ℕ) × (delivered s i b ≡ record { at = t; stream = s; payload = m .payload } ∷ delivered s i b₁)
+
+    AllIn : Bench → (ℕ → Type 0) → Type 0
+    AllIn b P = (i : ℕ) → T (liveReceiver s b i) → P i
+
+    AllOrNoneIn : Bench → Type 0
+    AllOrNoneIn b = AllIn b (Once b) ⊎ AllIn b (λ i. delivered s i b ≡ delivered s i b₁)
+
+    AllIfFullIn : Bench → Type 0
+    AllIfFullIn b = T (wasFull (bookOf s 0 b .payloadFrame)) → T (wasFull (bookOf s 0 b .confirmation)) → AllIn b (Once b)

@@ -8,7 +8,8 @@ use lib.Dec.{leb}
 use Rattle.wire.specs.Settings.{sends}
 use Rattle.bench.specs.Lists.{every}
 use Rattle.bench.specs.SetUp.{Entry, Plan, accepted, sameNumbers, allAgree, allEntries, isSent, proper}
-use Rattle.bench.proofs.examples.ExampleHistories.{computing, five, twoM}
+use Rattle.bench.specs.MomentTen.{five, twoM}
+use Rattle.bench.proofs.examples.ExampleHistories.{computing}
 
 -- what is asked of a plan
 pub record OfPlan : Type 0 where

@@ -12,15 +12,19 @@ use Rattle.wire.specs.declared.ids.Stream.{Stream}
 use Rattle.wire.specs.declared.ids.BusId.{BusId}
 use Rattle.node.specs.declared.slots.Slot.{Slot}
 use Rattle.node.specs.declared.Node.{Node}
+use Rattle.wire.specs.Classes.{carries}
+use Rattle.wire.specs.Frames.{badFrame}
 use Rattle.wire.specs.Identifiers.{streamOf, codeOf}
 use Rattle.node.specs.Calls.{hear, tick, request, nextFrame}
 use Rattle.node.specs.Clock.{unbounded}
+use Rattle.node.specs.Hear.{clashes, heardBy}
 use Rattle.node.specs.Nodes.{slotOf}
 use Rattle.node.specs.Reachable.{Kept}
-use Rattle.node.proofs.Choices.{either-way}
+use Rattle.node.specs.Slots.{isReceiver}
+use Rattle.node.proofs.Choices.{into, either-way}
 use Rattle.node.proofs.kept.EveryCall.{kept-by}
 use Rattle.node.proofs.slots.Streams.{kindOf, heard-keeps, lapsed-keeps, requested-keeps, given-out-keeps}
-use Rattle.one_stream.proofs.Truth.{cond-elim, cond-false, and-l, and-r}
+use Rattle.one_stream.proofs.Truth.{cond-elim, cond-false, and-l, and-r, not-so}
 use Rattle.bench.specs.Bench.{Module, Bench, Frame, noModule, moduleAt, isLive, counts, now, bookOf, frameOf, ownerOf, Delivery}
 use Rattle.bench.specs.Bench.{sameStream}
 use Rattle.bench.specs.Events.{Event, asks, gives, sends, ticks, dies, step, ticked, dead, hears, named, isAccepted, isNext, opened}
@@ -109,6 +113,14 @@ module-step b (sends z n w to) i =
 module-step b ticks i = nth-map noModule (ticked unbounded) refl i (b .modules)
 module-step b (dies j) i = nth-at noModule dead i j (b .modules) (inr refl)
 
+-- a death takes its module's life, and leaves its node alone
+module _ (b : Bench) (j i : ℕ) where
+  pub dead-live : isLive i (step b (dies j)) ≡ cond (eqb i j) false (isLive i b)
+  dead-live = ap (λ (m : Module). m .live) (module-step b (dies j) i) ∙ into (λ (m : Module). m .live) (eqb i j) refl refl
+
+  pub dead-node : moduleAt i (step b (dies j)) .node ≡ moduleAt i b .node
+  dead-node = ap (λ (m : Module). m .node) (module-step b (dies j) i) ∙ either-way (λ (m : Module). m .node) (eqb i j) refl refl
+
 -- a refused request, and giving out what is not next, change nothing
 pub refused-asks : (b : Bench) (j : ℕ) (z : Stream) (p : List ℕ) → (T (isAccepted j z p b) → ⊥) → step b (asks j z p) ≡ b
 unfolding step
@@ -149,7 +161,7 @@ ask-kind s z p n = go (decide-stream s z)
         (ap kindOf (ask-own s p n) ∙ either-way kindOf (accepts p (slotOf s n)) (requested-keeps (n .counter) p (slotOf s n)) refl)
     go (inr other) = ap kindOf (ask-other s z p n other)
 
-hear-kind : (s : Stream) (id : BusId) (p : List ℕ) (n : Node) → kindOf (slotOf s (hearing id p n .node)) ≡ kindOf (slotOf s n)
+pub hear-kind : (s : Stream) (id : BusId) (p : List ℕ) (n : Node) → kindOf (slotOf s (hearing id p n .node)) ≡ kindOf (slotOf s n)
 hear-kind s id p n = go (decide-stream s (streamOf id))
   where
     x : Slot
@@ -161,6 +173,25 @@ hear-kind s id p n = go (decide-stream s (streamOf id))
         (ap kindOf (hear-own id p n) ∙ either-way kindOf (takes id (length p) p x) (heard-keeps (n .counter) (codeOf id) p x) refl)
     go (inr other) = ap kindOf (hear-other s id p n other)
 
+-- a slot that does not receive hears nothing
+pub deaf : (s : Stream) (id : BusId) (bytes : List ℕ) (n : Node) → isReceiver (slotOf s n) ≡ false
+    → slotOf s (hearing id bytes n .node) ≡ slotOf s n
+deaf s id bytes n e = go (decide-stream s (streamOf id))
+  where
+    go : (s ≡ streamOf id) ⊎ (Same s (streamOf id) → ⊥) → slotOf s (hearing id bytes n .node) ≡ slotOf s n
+    go (inr other) = hear-other s id bytes n other
+    go (inl q) =
+        subst (λ z. slotOf z (hearing id bytes n .node) ≡ slotOf z n) (sym q)
+        (hear-own id bytes n ∙ cond-false (takes id (length bytes) bytes x) (heardBy (n .counter) (codeOf id) bytes x) x
+        (λ t. not-so (subst (λ z. isReceiver (slotOf z n) ≡ false) q e)
+        (and-l (isReceiver x) fits (and-r (not (badFrame id (length bytes) (length bytes))) (isReceiver x && fits) t))))
+      where
+        x : Slot
+        x = slotOf (streamOf id) n
+
+        fits : Bool
+        fits = carries (x .settings .class) (codeOf id) && not (clashes (codeOf id) bytes x)
+
 next-kind : (s : Stream) (n : Node) → Kept n → T (isDone (giving n .reply)) → kindOf (slotOf s (giving n .node)) ≡ kindOf (slotOf s n)
 next-kind s n k d = go (decide-stream s (streamOf (giving n .id)))
   where
@@ -170,6 +201,9 @@ next-kind s n k d = go (decide-stream s (streamOf (giving n .id)))
         (ap kindOf (next-own n k d) ∙ given-out-keeps (codeOf (giving n .id)) (slotOf (streamOf (giving n .id)) n))
     go (inr other) = ap kindOf (next-other s n other)
 
+pub tick-kind : (s : Stream) (n : Node) → kindOf (slotOf s (ticking n .node)) ≡ kindOf (slotOf s n)
+tick-kind s n = ap kindOf (tick-slot s n) ∙ lapsed-keeps (n .counter + 1 - slotOf s n .message .stamp) (slotOf s n)
+
 moved-tick : (s : Stream) (m : Module) → Moved s m (ticked unbounded m)
 moved-tick s m = go (m .live) (λ t. t)
   where
@@ -178,12 +212,7 @@ moved-tick s m = go (m .live) (λ t. t)
 
     go : (l : Bool) → (T l → T (m .live)) → Moved s m (cond l (tickedLive m) m)
     go true h =
-        record {
-          live = λ t. t;
-          kind = ap kindOf (tick-slot s n) ∙ lapsed-keeps (n .counter + 1 - slotOf s n .message .stamp) (slotOf s n);
-          kept = kept-by (tick lent) n;
-          later = omega (arith, tick-counter n);
-        }
+        record { live = λ t. t; kind = tick-kind s n; kept = kept-by (tick lent) n; later = omega (arith, tick-counter n) }
     go false h = moved-not s m
 
 -- the guard of giving out

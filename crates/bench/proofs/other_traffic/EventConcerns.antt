@@ -12,8 +12,8 @@ use Rattle.bench.specs.Demands.{concerns}
 use Rattle.bench.proofs.laws.SlotAfterCall.{Same, same-stream}
 use Rattle.bench.proofs.laws.ModuleAfterEvent.{Elsewhere}
 use Rattle.bench.proofs.laws.FramesOfBooks.{Labels, labelled}
-use Rattle.bench.proofs.demand3.RulesSeen.{was-given}
-use Rattle.bench.proofs.demand3.ThroughHistory.{sends-elsewhere}
+use Rattle.bench.proofs.message.RulesSeen.{was-given}
+use Rattle.bench.proofs.message.ThroughHistory.{sends-elsewhere}
 
 pub same-if : (s z : Stream) → T (sameStream z s) → s ≡ z
 same-if s z t = sym (same-stream (eqb→eq (z .0) (s .0) t))

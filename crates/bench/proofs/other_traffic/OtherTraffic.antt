@@ -30,10 +30,10 @@ use Rattle.bench.proofs.laws.ModuleAfterEvent.{hearsFrame, stepModule, 
 use Rattle.bench.proofs.laws.ModuleAfterEvent.{Untouched, Elsewhere, untouched-step}
 use Rattle.bench.proofs.laws.BooksAfterEvent.{listed, listed-step, entering, books-asked, books-given, books-sent, books-ticked, books-dead}
 use Rattle.bench.proofs.laws.FramesOfBooks.{Labels, unlisted, label-step}
-use Rattle.bench.proofs.demand3.ThroughHistory.{else-books, Quiet, quiet-lapsed}
+use Rattle.bench.proofs.message.ThroughHistory.{else-books, Quiet, quiet-lapsed}
 use Rattle.bench.proofs.other_traffic.EventConcerns.{same-if, frame-carries, elsewhere}
 use Rattle.bench.proofs.other_traffic.SameNextFrame.{SameNext, same-next}
-use Rattle.bench.proofs.demand3.PlanGives.{start-kept, start-silent, start-labels}
+use Rattle.bench.proofs.message.PlanGives.{start-kept, start-silent, start-labels}
 use Rattle.bench.proofs.other_traffic.ModulesAlike.{both-if, both-ask, both-tick, both-dead, both-hear, AllAlike, same-counts, no-aborts, same-entering}
 
 -- ── two benches that look alike to a stream; in the second, slots of other streams are quiet ──

@@ -28,7 +28,7 @@ use Rattle.bench.specs.Events.{lent}
 use Rattle.bench.proofs.laws.SlotAfterCall.{Same, slot-kept, giving, IsPending, thePayload, theConfirmation, theAbort}
 use Rattle.bench.proofs.laws.SlotAfterCall.{stream-of-slot, next-used, next-pending, next-bytes}
 use Rattle.bench.proofs.laws.ModuleAfterEvent.{decide-stream}
-use Rattle.bench.proofs.demand3.ThroughHistory.{Quiet, none-pending}
+use Rattle.bench.proofs.message.ThroughHistory.{Quiet, none-pending}
 
 -- ── the lowest of a slot, and of the table ──
 small-code : (x : Slot) {c : ℕ} → IsPending x c → c ≤ 3

@@ -6,7 +6,7 @@ use mathlib.Core.Logic.{_⊎_, inl, inr}
 use mathlib.Core.Bool.{Bool, true, false, not, _&&_}
 use mathlib.Core.List.{List, [], _∷_, _++_, map}
 use lib.ListN.{length}
-use lib.Dec.{T, eqb, eqb-refl, eqb→eq, T-not}
+use lib.Dec.{T, eqb, eqb→eq, T-not}
 use Rattle.wire.specs.declared.ids.Stream.{Stream}
 use Rattle.wire.specs.Identifiers.{streamOf}
 use Rattle.wire.specs.Settings.{receives, isPlain}
@@ -30,18 +30,22 @@ use Rattle.bench.specs.Events.{sentAgain, sentOnce, onFrame, onNewest, w
 use Rattle.bench.specs.Rules.{may, keepsSoFar}
 use Rattle.bench.specs.Demands.{liveReceiver, accepts, noneAccepted}
 use Rattle.bench.proofs.laws.SlotAfterCall.{Same, same-stream, hearing, ticking, tick-delivers, deliveryOf, onStream}
-use Rattle.bench.proofs.laws.ModuleAfterEvent.{hearsFrame, stepModule, module-step, moved-step, refused-asks, decide-stream, countOf, asFunction, count-is}
+use Rattle.bench.proofs.laws.ModuleAfterEvent.{hearsFrame, stepModule, module-step, moved-step, refused-asks, decide-stream, countOf, asFunction}
+use Rattle.bench.proofs.laws.ModuleAfterEvent.{count-is}
 use Rattle.bench.proofs.laws.BooksAfterEvent.{entering, books-given, books-sent, books-ticked, books-dead}
-use Rattle.bench.proofs.demand3.ModuleSeen.{toSent, toNote, notes, view}
-use Rattle.bench.proofs.demand3.SeenAfterOwnEvent.{Valid, valid-step, lineOf}
-use Rattle.bench.proofs.demand3.RulesSeen.{maySend, owner-lives, legal-data}
-use Rattle.bench.proofs.demand3.MessageKept.{Track}
-use Rattle.bench.proofs.demand3.ThroughHistory.{else-books, sends-elsewhere, Opens, track-step}
-use Rattle.bench.proofs.demand3.Judgement.{live-back, count-step}
+use Rattle.bench.proofs.laws.TicksCounted.{live-back, count-step}
+use Rattle.bench.proofs.message.SendingsSeen.{toSent}
+use Rattle.bench.proofs.message.ClassOnBench.{ClassOnBench}
+use Rattle.bench.proofs.message.ModuleSeen.{toNote, notes, view}
+use Rattle.bench.proofs.message.SeenAfterOwnEvent.{Valid, valid-step, strandOf}
+use Rattle.bench.proofs.message.RulesSeen.{maySend, owner-lives, legal-data}
+use Rattle.bench.proofs.message.MessageKept.{Track}
+use Rattle.bench.proofs.message.ThroughHistory.{else-books, sends-elsewhere, accepts-it, track-step}
+use Rattle.bench.proofs.two_message.TwoMessageOnBench.{twoMessage}
 use Rattle.bench.proofs.same_order.LogOrder.{heard-plain}
-use Rattle.one_stream.specs.Sendings as LS
-use Rattle.one_stream.specs.Classes as LC
-use Rattle.one_stream.specs.TwoM as LM
+use Rattle.one_stream.specs.Sendings as OS
+use Rattle.one_stream.specs.Classes as OC
+use Rattle.one_stream.specs.TwoM as OM
 
 -- ── what a log gains of a stream it gains at a live receiver ──
 log-step : (s : Stream) (b : Bench) (e : Event) (i : ℕ) → Kept (moduleAt i b .node)
@@ -96,30 +100,30 @@ log-step s b e i k = stay-receiver (subst Gains (sym (module-step b e i)) (go e)
     go (dies j) = inl (either-way (λ (m : Module). onStream s (m .log)) (eqb i j) refl refl)
 
 -- ── sendings ──
-abbrev pub dataOf : Book → LS.Sent
+abbrev pub dataOf : Book → OS.Sent
 dataOf k = toSent (k .payloadFrame .sendings)
 
-abbrev pub confirmationOf : Book → LS.Sent
+abbrev pub confirmationOf : Book → OS.Sent
 confirmationOf k = toSent (k .confirmation .sendings)
 
-last-again : (t : Moment) (full : Bool) (d : Sendings) → LS.last (toSent (sentAgain t full d)) ≡ asFunction t
+last-again : (t : Moment) (full : Bool) (d : Sendings) → OS.last (toSent (sentAgain t full d)) ≡ asFunction t
 unfolding toSent
 last-again t full never = refl
 last-again t full (sent first last f) = refl
 
-some-again : (t : Moment) (full : Bool) (d : Sendings) → LS.Some (toSent (sentAgain t full d))
+some-again : (t : Moment) (full : Bool) (d : Sendings) → OS.Some (toSent (sentAgain t full d))
 unfolding toSent
 some-again t full never = tt
 some-again t full (sent first last f) = tt
 
 -- the newest book after an event: its data was not sent, or it was, and no confirmation before
 data After (me : ℕ) (b : Bench) (k k′ : Book) : Type 0 where
-  no-data : dataOf k′ ≡ dataOf k → (LS.Some (confirmationOf k) → LS.Some (confirmationOf k′)) → After me b k k′
-  more-data : (LS.Some (confirmationOf k) → ⊥) → T (isLive me b) → (full : Bool) → dataOf k′ ≡ toSent (sentAgain (now b) full (k .payloadFrame .sendings))
+  no-data : dataOf k′ ≡ dataOf k → (OS.Some (confirmationOf k) → OS.Some (confirmationOf k′)) → After me b k k′
+  more-data : (OS.Some (confirmationOf k) → ⊥) → T (isLive me b) → (full : Bool) → dataOf k′ ≡ toSent (sentAgain (now b) full (k .payloadFrame .sendings))
       → After me b k k′
 
-module _ (D : LS.Delays) (fit : LM.Fit D) (s : Stream) (me : ℕ) (since : Moment) (p : List ℕ) (base : ℕ → List LC.Note) where
-  module _ (b : Bench) (v : Valid D s me b) (x : Track D fit s me since p base b) where
+module _ {n : ℕ} {D : OS.Delays} (K : ClassOnBench n D) (s : Stream) (me : ℕ) (since : Moment) (p : List ℕ) (base : ℕ → List OC.Note) where
+  module _ (b : Bench) (v : Valid n D s me b) (x : Track K s me since p base b) where
     abbrev Follows : Bench → Type 0
     Follows b′ = After me b (bookOf s 0 b) (bookOf s 0 b′)
 
@@ -142,12 +146,12 @@ module _ (D : LS.Delays) (fit : LM.Fit D) (s : Stream) (me : ℕ) (since : Momen
         given (theAbort owner place) = no-data refl (λ c. c)
 
     after-sending : (n : ℕ) (w : Which) (to : To) → T (maySend b s (bookOf s n b) w) → Follows (step b (sends s n w to))
-    unfolding LC.Legal
+    unfolding OC.Legal
     after-sending n w to t = newest n (subst (λ ks. T (maySend b s (nth noBook n ks) w)) (x .books) t)
       where
         again : (w : Which) → T (maySend b s (x .k) w) → After me b (x .k) (onFrame w (sentOnce (now b) (isFull to)) (x .k))
         again thePayload t =
-            more-data (legal-data D s me p b v (x .k) (x .own .sender) (x .hold) to t .3)
+            more-data (legal-data K s me p b v (x .k) (x .own .sender) (x .hold) to t .3)
             (subst (λ i. T (isLive i b)) (x .own .sender) (owner-lives b s (x .k) thePayload t)) (isFull to) refl
         again theConfirmation t = no-data refl (λ c. some-again (now b) (isFull to) (x .k .confirmation .sendings))
         again (theAbort owner place) t = no-data refl (λ c. c)
@@ -163,12 +167,12 @@ module _ (D : LS.Delays) (fit : LM.Fit D) (s : Stream) (me : ℕ) (since : Momen
             (books-sent s b (v .ledger) 0 w to) (entered b′ (onFrame w (sentOnce (now b) (isFull to)) (x .k)) (again w t))
         newest (suc n) t = absurd (x .old n w t)
 
-    after-event : (e : Event) → (Opens s b e → ⊥) → T (may b e) → Follows (step b e)
+    after-event : (e : Event) → (T (accepts s b e) → ⊥) → T (may b e) → Follows (step b e)
     unfolding may
     after-event (asks j z q) shut m = go (decide-stream s z)
       where
         go : (s ≡ z) ⊎ (Same s z → ⊥) → Follows (step b (asks j z q))
-        go (inl e) = unchanged (step b (asks j z q)) (ap (booksOf s) (refused-asks b j z q (λ t. shut (e, t))))
+        go (inl e) = unchanged (step b (asks j z q)) (ap (booksOf s) (refused-asks b j z q (λ t. shut (accepts-it s b j z q e t))))
         go (inr other) = unchanged (step b (asks j z q)) (else-books s b (asks j z q) other)
     after-event (gives j z c) shut m = go (decide-stream s z)
       where
@@ -185,44 +189,45 @@ module _ (D : LS.Delays) (fit : LM.Fit D) (s : Stream) (me : ℕ) (since : Momen
     after-event (dies j) shut m = unchanged (step b (dies j)) (books-dead s b j)
 
 -- ── what each module has delivered of the message ──
-module _ (D : LS.Delays) (s : Stream) (me : ℕ) (p : List ℕ) (base : ℕ → List LC.Note) where
-  pub data Told (k : Book) (i : ℕ) (log : List LC.Note) : Type 0 where
+module _ (D : OS.Delays) (s : Stream) (me : ℕ) (p : List ℕ) (base : ℕ → List OC.Note) where
+  pub data Told (k : Book) (i : ℕ) (log : List OC.Note) : Type 0 where
     not-yet : log ≡ base i → Told k i log
-    told : (t : ℕ) → log ≡ record { at = t; bytes = p } ∷ base i → LS.Some (confirmationOf k)
-        → (LS.Full (dataOf k) → t ≡ LS.last (dataOf k) me + D .dd + 1) → Told k i log
+    told : (t : ℕ) → log ≡ record { at = t; bytes = p } ∷ base i → OS.Some (confirmationOf k)
+        → (OS.Full (dataOf k) → t ≡ OS.last (dataOf k) me + D .dd + 1) → Told k i log
 
   -- live modules count alike, also when the data was sent last
   pub record Timed (b : Bench) : Type 0 where
     pub even : (i j : ℕ) → T (isLive i b) → T (isLive j b) → countOf b i ≡ countOf b j
-    pub last : LS.Some (dataOf (bookOf s 0 b)) → (i : ℕ) → T (isLive i b) → LS.last (dataOf (bookOf s 0 b)) i ≡ LS.last (dataOf (bookOf s 0 b)) me
+    pub last : OS.Some (dataOf (bookOf s 0 b)) → (i : ℕ) → T (isLive i b) → OS.last (dataOf (bookOf s 0 b)) i ≡ OS.last (dataOf (bookOf s 0 b)) me
     pub logs : (i : ℕ) → Told (bookOf s 0 b) i (notes s (moduleAt i b .log))
 
-  told-later : (b : Bench) (k k′ : Book) (i : ℕ) {log log′ : List LC.Note} → After me b k k′ → log′ ≡ log → Told k i log → Told k′ i log′
+  told-later : (b : Bench) (k k′ : Book) (i : ℕ) {log log′ : List OC.Note} → After me b k k′ → log′ ≡ log → Told k i log → Told k′ i log′
   told-later b k k′ i a e (not-yet q) = not-yet (e ∙ q)
   told-later b k k′ i (no-data d c) e (told t q conf when) =
-      told t (e ∙ q) (c conf) (λ full. when (subst LS.Full d full) ∙ ap (λ (d : LS.Sent). LS.last d me + D .dd + 1) (sym d))
+      told t (e ∙ q) (c conf) (λ full. when (subst OS.Full d full) ∙ ap (λ (d : OS.Sent). OS.last d me + D .dd + 1) (sym d))
   told-later b k k′ i (more-data nc l full d) e (told t q conf when) = absurd (nc conf)
 
-  module _ (fit : LM.Fit D) (since : Moment) where
+  module _ (fit : OM.Fit D) (since : Moment) where
     -- at a live receiver the one-stream invariant says it
-    told-live : (b : Bench) (x : Track D fit s me since p base b) (i : ℕ) → T (liveReceiver s b i)
-        → (LS.Some (dataOf (x .k)) → LS.last (dataOf (x .k)) i ≡ LS.last (dataOf (x .k)) me) → Told (x .k) i (notes s (moduleAt i b .log))
-    unfolding view
-    told-live b x i live last = go (w .receiver i .slot) (slots-of D fit (lineOf D s me p b (x .k) (x .hold)) (x .a) base (x .inv) .each i live)
+    told-live : (b : Bench) (x : Track (twoMessage D fit) s me since p base b) (i : ℕ) → T (liveReceiver s b i)
+        → (OS.Some (dataOf (x .k)) → OS.last (dataOf (x .k)) i ≡ OS.last (dataOf (x .k)) me) → Told (x .k) i (notes s (moduleAt i b .log))
+    unfolding view twoMessage
+    told-live b x i live last =
+        go (w .receiver i .slot) (slots-of D fit (strandOf (twoMessage D fit) s me p b (x .k) (x .hold)) (x .a) base (x .inv) .each i live)
       where
-        w : LC.State (LM.twoM D)
-        w = lineOf D s me p b (x .k) (x .hold) .state
+        w : OC.State (OM.twoM D)
+        w = strandOf (twoMessage D fit) s me p b (x .k) (x .hold) .state
 
-        go : (y : LM.Slot) → SlotOk D w (x .a) i y (w .receiver i .frames) (notes s (moduleAt i b .log)) (base i) → Told (x .k) i (notes s (moduleAt i b .log))
-        go LM.empty (untouched d c q) = not-yet q
-        go LM.empty (gaveAbort f q) = not-yet q
-        go LM.empty (heardAbort j f c q) = not-yet q
-        go LM.empty (delivered t st late conf a f q) = told (t + D .dd + 1) q conf (λ full. omega (arith, st .exact full, last (st .some)))
-        go (LM.held t false y) (h, young, c) = not-yet (h .noDelivery)
-        go (LM.held t true y) (h, young, c) = not-yet (h .noDelivery)
+        go : (y : OM.Slot) → SlotOk D w (x .a) i y (w .receiver i .frames) (notes s (moduleAt i b .log)) (base i) → Told (x .k) i (notes s (moduleAt i b .log))
+        go OM.empty (untouched d c q) = not-yet q
+        go OM.empty (gaveAbort f q) = not-yet q
+        go OM.empty (heardAbort j f c q) = not-yet q
+        go OM.empty (delivered t st late conf a f q) = told (t + D .dd + 1) q conf (λ full. omega (arith, st .exact full, last (st .some)))
+        go (OM.held t false y) (h, young, c) = not-yet (h .noDelivery)
+        go (OM.held t true y) (h, young, c) = not-yet (h .noDelivery)
 
-    timed-step : (b : Bench) → Valid D s me b → Track D fit s me since p base b → (e : Event) → (Opens s b e → ⊥) → T (may b e)
-        → Track D fit s me since p base (step b e) → Timed b → Timed (step b e)
+    timed-step : (b : Bench) → Valid 2 D s me b → Track (twoMessage D fit) s me since p base b → (e : Event) → (T (accepts s b e) → ⊥) → T (may b e)
+        → Track (twoMessage D fit) s me since p base (step b e) → Timed b → Timed (step b e)
     timed-step b v x e shut m x′ z = record { even = even; last = last after; logs = λ i. logs i (log-step s b e i (v .nodes i)) }
       where
         k : Book
@@ -232,16 +237,16 @@ module _ (D : LS.Delays) (s : Stream) (me : ℕ) (p : List ℕ) (base : ℕ → 
         k′ = bookOf s 0 (step b e)
 
         after : After me b k k′
-        after = after-event D fit s me since p base b v x e shut m
+        after = after-event (twoMessage D fit) s me since p base b v x e shut m
 
         even : (i j : ℕ) → T (isLive i (step b e)) → T (isLive j (step b e)) → countOf (step b e) i ≡ countOf (step b e) j
         even i j l r = omega (arith, count-step b e i l, count-step b e j r, z .even i j (live-back b e i l) (live-back b e j r))
 
-        last : After me b k k′ → LS.Some (dataOf k′) → (i : ℕ) → T (isLive i (step b e)) → LS.last (dataOf k′) i ≡ LS.last (dataOf k′) me
+        last : After me b k k′ → OS.Some (dataOf k′) → (i : ℕ) → T (isLive i (step b e)) → OS.last (dataOf k′) i ≡ OS.last (dataOf k′) me
         last (no-data d c) some i l =
-            subst (λ (d : LS.Sent). LS.last d i ≡ LS.last d me) (sym d) (z .last (subst LS.Some d some) i (live-back b e i l))
+            subst (λ (d : OS.Sent). OS.last d i ≡ OS.last d me) (sym d) (z .last (subst OS.Some d some) i (live-back b e i l))
         last (more-data nc up full d) some i l =
-            subst (λ (t : ℕ → ℕ). t i ≡ t me) (sym (ap LS.last d ∙ last-again (now b) full (k .payloadFrame .sendings)))
+            subst (λ (t : ℕ → ℕ). t i ≡ t me) (sym (ap OS.last d ∙ last-again (now b) full (k .payloadFrame .sendings)))
             (count-is i (b .modules) ∙ (z .even i me (live-back b e i l) up ∙ sym (count-is me (b .modules))))
 
         newest : x′ .k ≡ k′
@@ -253,24 +258,17 @@ module _ (D : LS.Delays) (s : Stream) (me : ℕ) (p : List ℕ) (base : ℕ → 
         logs i (inr live) =
             subst (λ k. Told k i (notes s (moduleAt i (step b e) .log))) newest
             (told-live (step b e) x′ i live
-            (subst (λ k. LS.Some (dataOf k) → LS.last (dataOf k) i ≡ LS.last (dataOf k) me) (sym newest)
+            (subst (λ k. OS.Some (dataOf k) → OS.last (dataOf k) i ≡ OS.last (dataOf k) me) (sym newest)
             (λ some. last after some i (and-l (isLive i (step b e)) (isReceiver (slotAt s i (step b e))) live))))
 
-    not-opens : (b : Bench) (e : Event) → T (not (accepts s b e)) → Opens s b e → ⊥
-    not-opens b (asks j z q) n (e, t) =
-        T-not (accepts s b (asks j z q)) n (both (sameStream z s) (isAccepted j z q b) (subst (λ (y : Stream). T (sameStream y s)) e (eqb-refl (s .0))) t)
-    not-opens b (gives j z c) n o = o
-    not-opens b (sends z d w to) n o = o
-    not-opens b ticks n o = o
-    not-opens b (dies j) n o = o
-
     -- while no request of the stream is accepted
-    pub timed-run : (b : Bench) → Valid D s me b → Track D fit s me since p base b → (h r : List Event) → T (keepsSoFar b (h ++ r)) → T (noneAccepted s b h)
+    pub timed-run : (b : Bench) → Valid 2 D s me b → Track (twoMessage D fit) s me since p base b → (h r : List Event) → T (keepsSoFar b (h ++ r))
+        → T (noneAccepted s b h)
         → Timed b → Timed (run b h)
     timed-run b v x [] r k none z = z
     timed-run b v x (e ∷ es) r k none z =
         let m = and-l (may b e) (keepsSoFar (step b e) (es ++ r)) k in
-        let shut = not-opens b e (and-l (not (accepts s b e)) (noneAccepted s (step b e) es) none) in
-        let x′ = track-step D fit s me since p base b v x e shut m in
-        timed-run (step b e) (valid-step D s me b e v) x′ es r (and-r (may b e) (keepsSoFar (step b e) (es ++ r)) k)
+        let shut = T-not (accepts s b e) (and-l (not (accepts s b e)) (noneAccepted s (step b e) es) none) in
+        let x′ = track-step (twoMessage D fit) s me since p base b v x e shut m in
+        timed-run (step b e) (valid-step e v) x′ es r (and-r (may b e) (keepsSoFar (step b e) (es ++ r)) k)
         (and-r (not (accepts s b e)) (noneAccepted s (step b e) es) none) (timed-step b v x e shut m x′ z)

@@ -32,7 +32,7 @@ use Rattle.bench.specs.Events.{Event, asks, gives, sends, ticks, dies, l
 use Rattle.bench.specs.Demands.{Has, Before}
 use Rattle.bench.proofs.laws.SlotAfterCall.{hearing, hear-counter, ticking, tick-counter, asking, ask-counter, giving, next-counter, deliveryOf}
 use Rattle.bench.proofs.laws.ModuleAfterEvent.{hearsFrame, stepModule, module-step, moved-step}
-use Rattle.bench.proofs.demand3.PlanGives.{start-kept}
+use Rattle.bench.proofs.message.PlanGives.{start-kept}
 use Rattle.bench.proofs.laws.AtStart.{log-at-start}
 
 -- an earlier tick, or the same and a lower stream

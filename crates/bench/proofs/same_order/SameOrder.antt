@@ -24,18 +24,19 @@ use Rattle.bench.specs.Demands.{tickCount, delivered, noneAccepted, Has,
 use Rattle.bench.proofs.laws.SlotAfterCall.{same-stream, onStream}
 use Rattle.bench.proofs.laws.ModuleAfterEvent.{stepModule, module-step, countOf}
 use Rattle.bench.proofs.laws.BooksAfterEvent.{books-asked}
-use Rattle.bench.proofs.demand3.ModuleSeen.{toSent, toNote, notes}
-use Rattle.bench.proofs.demand3.SeenAfterOwnEvent.{valid-step}
-use Rattle.bench.proofs.demand3.RulesSeen.{full-was}
-use Rattle.bench.proofs.demand3.RequestOpens.{logsOf}
-use Rattle.bench.proofs.demand3.Judgement.{live-back, count-step, count-run}
-use Rattle.bench.proofs.demand3.Demand3.{run-append}
 use Rattle.bench.proofs.laws.AtStart.{count-at-start}
-use Rattle.bench.proofs.demand3.AcceptedRequest.{Requested, requested}
+use Rattle.bench.proofs.laws.TicksCounted.{run-append, live-back, count-step, count-run}
+use Rattle.bench.proofs.message.SendingsSeen.{toSent, full-was}
+use Rattle.bench.proofs.message.ClassOnBench.{toDelays}
+use Rattle.bench.proofs.message.ModuleSeen.{toNote, notes}
+use Rattle.bench.proofs.message.SeenAfterOwnEvent.{valid-step}
+use Rattle.bench.proofs.message.RequestOpens.{logsOf}
+use Rattle.bench.proofs.message.AcceptedRequest.{Requested, requested}
+use Rattle.bench.proofs.two_message.TwoMessageOnBench.{fits, two-message}
 use Rattle.bench.proofs.same_order.LogOrder.{Earlier, receivesPlain, timedAt, in-order, log-order, earlier-before}
 use Rattle.bench.proofs.same_order.DeliveryTicks.{dataOf, Told, not-yet, told, Timed, timed-run}
-use Rattle.one_stream.specs.Sendings as LS
-use Rattle.one_stream.specs.Classes as LC
+use Rattle.one_stream.specs.Sendings as OS
+use Rattle.one_stream.specs.Classes as OC
 
 -- ── what was delivered stays in the log ──
 has-onto : (d : Delivery) (ds log : List Delivery) → Has d log → Has d (onto ds log)
@@ -76,7 +77,7 @@ module _ (s : Stream) (d : Delivery) (rest : List Delivery) where
       go false own e later = let r = later e in (inr (r .0), r .1)
 
 -- ── one message: requested in b₁, seen in b₃ ──
-module _ (plan : Plan) (before since rest : List Event) (j : ℕ) (s : Stream) (p : List ℕ) (q : Requested plan before (since ++ rest) j s p) where
+module _ (plan : Plan) (before since rest : List Event) (j : ℕ) (s : Stream) (p : List ℕ) (q : Requested two-message plan before (since ++ rest) j s p) where
   abbrev b₀ : Bench
   b₀ = start plan
 
@@ -89,8 +90,8 @@ module _ (plan : Plan) (before since rest : List Event) (j : ℕ) (s : Stream) (
   abbrev b₃ : Bench
   b₃ = run b₂ since
 
-  abbrev D : LS.Delays
-  D = q .D
+  abbrev D : OS.Delays
+  D = toDelays (q .settings)
 
   -- no receiver of the stream receives it as plain frames
   is-timed : (i : ℕ) → T (timedAt plan i s)
@@ -105,7 +106,7 @@ module _ (plan : Plan) (before since rest : List Event) (j : ℕ) (s : Stream) (
     timed₂ =
         record {
           even = λ i k l r. omega (arith, count i l, count k r);
-          last = λ some. absurd (subst (λ ks. LS.Some (dataOf (nth noBook 0 ks))) (books-asked s b₁ (q .at-request .ledger) j p accepted) some);
+          last = λ some. absurd (subst (λ ks. OS.Some (dataOf (nth noBook 0 ks))) (books-asked s b₁ (q .at-request .ledger) j p accepted) some);
           logs = λ i. not-yet (ap (λ (m : Module). notes s (m .log)) (module-step b₁ (asks j s p) i)
               ∙ either-way (λ (m : Module). notes s (m .log)) (isAccepted j s p b₁ && eqb i j) refl refl);
         }
@@ -116,22 +117,22 @@ module _ (plan : Plan) (before since rest : List Event) (j : ℕ) (s : Stream) (
 
     timed₃ : Timed D s j p (logsOf s b₁) b₃
     timed₃ =
-        timed-run D s j p (logsOf s b₁) (q .fit) (now b₁) b₂ (valid-step D s j b₁ (asks j s p) (q .at-request)) (q .track)
+        timed-run D s j p (logsOf s b₁) (fits s (q .settings) (q .of) (q .lawful)) (now b₁) b₂ (valid-step (asks j s p) (q .at-request)) (q .track)
         since rest (q .keeps-on) newest timed₂
 
     -- where its data was full, every module that delivers it does so dd + 1 ticks after the last sending of its data
     one-tick : T (wasFull (bookOf s 0 b₃ .payloadFrame)) → (i : ℕ) (d : Delivery) → delivered s i b₃ ≡ d ∷ delivered s i b₁
-        → d .at ≡ LS.last (dataOf (bookOf s 0 b₃)) j + D .dd + 1
+        → d .at ≡ OS.last (dataOf (bookOf s 0 b₃)) j + D .dd + 1
     one-tick full i d e = go (timed₃ .logs i)
       where
-        go : Told D s j p (logsOf s b₁) (bookOf s 0 b₃) i (notes s (moduleAt i b₃ .log)) → d .at ≡ LS.last (dataOf (bookOf s 0 b₃)) j + D .dd + 1
+        go : Told D s j p (logsOf s b₁) (bookOf s 0 b₃) i (notes s (moduleAt i b₃ .log)) → d .at ≡ OS.last (dataOf (bookOf s 0 b₃)) j + D .dd + 1
         go (not-yet q) =
             let long : length (logsOf s b₁ i) ≡ suc (length (logsOf s b₁ i)) = ap length (sym q ∙ ap (map toNote) e) in
             let z : ⊥ = omega arith in absurd z
         go (told t q conf when) =
             let same : toNote d ∷ logsOf s b₁ i ≡ record { at = t; bytes = p } ∷ logsOf s b₁ i = sym (ap (map toNote) e) ∙ q in
             let note : toNote d ≡ record { at = t; bytes = p } = cc in
-            ap (λ (n : LC.Note). n .at) note ∙ when (full-was (bookOf s 0 b₃ .payloadFrame) full)
+            ap (λ (n : OC.Note). n .at) note ∙ when (full-was (bookOf s 0 b₃ .payloadFrame) full)
 
 -- ── two messages ──
 -- a module delivers the message: in its log stands d, of its stream, at this tick
@@ -142,13 +143,14 @@ record DeliversAt (plan : Plan) (h : List Event) (s : Stream) (t i : ℕ) (d : D
   tick : d .at ≡ t
 
 module _ (plan : Plan) (ok : T (proper plan)) (h : List Event) (keeps : T (keepsSoFar (start plan) h)) (m : Seen (start plan) h) where
-  its-request : Requested plan (m .before) (m .since ++ m .rest) (m .sender) (m .stream) (m .payload)
+  its-request : Requested two-message plan (m .before) (m .since ++ m .rest) (m .sender) (m .stream) (m .payload)
   its-request =
-      requested plan (m .before) (m .since ++ m .rest) (m .sender) (m .stream) (m .payload) ok (subst (λ l. T (keepsSoFar (start plan) l)) (m .split) keeps)
+      requested two-message plan (m .before) (m .since ++ m .rest) (m .sender) (m .stream) (m .payload) ok
+      (subst (λ l. T (keepsSoFar (start plan) l)) (m .split) keeps)
       (m .accepted) (m .twoMessage)
 
   its-tick : ℕ
-  its-tick = LS.last (dataOf (bookOf (m .stream) 0 (seenAt (start plan) h m))) (m .sender) + its-request .D .dd + 1
+  its-tick = OS.last (dataOf (bookOf (m .stream) 0 (seenAt (start plan) h m))) (m .sender) + its-request .settings .dd + 1
 
   delivers-at : DataFull (start plan) h m → (i : ℕ) (d : Delivery) → Delivers (start plan) h m i d → DeliversAt plan h (m .stream) its-tick i d
   unfolding its-tick

@@ -1,9 +1,9 @@
--- Giving out a frame of a 2M stream keeps what is known of it.
+-- Giving out a frame of a stream keeps what is known of it.
 use Prim.Native.Nat.{ℕ, _+_, _*_}
 use native.Mathlib.Omega.{arith}
 use mathlib.Core.Path.{_≡_, refl, ap, sym, subst, _∙_}
 use mathlib.Core.Logic.{inr}
-use mathlib.Core.Bool.{Bool, _&&_, cond}
+use mathlib.Core.Bool.{Bool, false, _&&_, cond}
 use mathlib.Core.List.{List, [], _∷_, map}
 use lib.Dec.{T, eqb, eqb→eq}
 use Rattle.wire.specs.declared.ids.Stream.{Stream}
@@ -12,14 +12,14 @@ use Rattle.node.specs.declared.slots.Message.{Message}
 use Rattle.node.specs.declared.slots.Pending.{Pending}
 use Rattle.node.specs.declared.Node.{Node}
 use Rattle.wire.specs.Identifiers.{idOf, codeOf, streamOf}
-use Rattle.wire.specs.Settings.{isPlain, isTwoMessage}
+use Rattle.wire.specs.Settings.{isPlain, receives}
 use Rattle.node.specs.NextFrame.{payloadCode, without, givenOut, payloadFor}
 use Rattle.node.specs.Nodes.{slotOf}
-use Rattle.node.specs.Slots.{payloadOf}
+use Rattle.node.specs.Reachable.{KeptSlot}
+use Rattle.node.specs.Slots.{isReceiver, payloadOf}
 use Rattle.node.proofs.Choices.{into}
 use Rattle.one_stream.proofs.Chain.{Inv, act-keeps}
-use Rattle.one_stream.proofs.Truth.{cond-elim, cond-false, and-r, both, is-true, so}
-use Rattle.one_stream.proofs.TwoMEnd.{twoMWorks}
+use Rattle.one_stream.proofs.Truth.{cond-elim, cond-false, and-l, and-r, both, is-true, is-false, so, not-so}
 use Rattle.bench.specs.Bench.{Module, Bench, Frame, noBook, moduleAt, slotAt, Which, thePayload, theConfirmation, theAbort, Moment}
 use Rattle.bench.specs.Events.{gives, step, onFrame, onNewest, isNext, gaveOut, whichOf, next}
 use Rattle.bench.specs.Lists.{nth, at}
@@ -28,20 +28,20 @@ use Rattle.bench.proofs.laws.SlotAfterCall.{slot-kept, giving, IsPendin
 use Rattle.bench.proofs.laws.ModuleAfterEvent.{nth-at, module-step, next-done, moved-step, asFunction}
 use Rattle.bench.proofs.laws.BooksAfterEvent.{books-given}
 use Rattle.bench.proofs.laws.FramesOfBooks.{codeIn}
-use Rattle.bench.proofs.demand3.ModuleSeen.{toFrame}
-use Rattle.bench.proofs.demand3.SeenAfterOwnEvent.{Valid, lineOf, give-own-line, give-abort-line}
-use Rattle.bench.proofs.demand3.MessageKept.{Sender, Track, send-back, own-moved, own-on-frame}
+use Rattle.bench.proofs.message.ClassOnBench.{ClassOnBench}
+use Rattle.bench.proofs.message.ModuleSeen.{toFrame, not-plain}
+use Rattle.bench.proofs.message.SeenAfterOwnEvent.{Valid, not-both, strandOf}
+use Rattle.bench.proofs.message.SeenAfterGivingOut.{give-own-strand, give-code2-strand}
+use Rattle.bench.proofs.message.MessageKept.{carries, Sender, Track, send-back, pending-receives, own-moved, own-on-frame}
 use Rattle.wire.specs.Settings as wire
-use Rattle.one_stream.specs.Sendings as LS
-use Rattle.one_stream.specs.Frames as LF
-use Rattle.one_stream.specs.Classes as LC
-use Rattle.one_stream.proofs.Histories as LH
-use Rattle.one_stream.specs.TwoM as LM
+use Rattle.one_stream.specs.Sendings as OS
+use Rattle.one_stream.specs.Frames as OF
+use Rattle.one_stream.specs.Classes as OC
+use Rattle.one_stream.proofs.Histories as OH
 use Rattle.bench.proofs.laws.SlotAfterCall as Laws
 
-module _ (D : LS.Delays) (fit : LM.Fit D) (s : Stream) (me : ℕ) (since : Moment) (p : List ℕ) (base : ℕ → List LC.Note) (b : Bench)
-    (v : Valid D s me b)
-    (x : Track D fit s me since p base b) (j : ℕ) where
+module _ {n : ℕ} {D : OS.Delays} (K : ClassOnBench n D) (s : Stream) (me : ℕ) (since : Moment) (p : List ℕ) (base : ℕ → List OC.Note) (b : Bench)
+    (v : Valid n D s me b) (x : Track K s me since p base b) (j : ℕ) where
   abbrev node : Node
   node = moduleAt j b .node
 
@@ -52,7 +52,7 @@ module _ (D : LS.Delays) (fit : LM.Fit D) (s : Stream) (me : ℕ) (since : Momen
   After c = step b (gives j s c)
 
   abbrev Follows : Bench → Type 0
-  Follows = Track D fit s me since p base
+  Follows = Track K s me since p base
 
   -- ── what was given out ──
   module _ (c : ℕ) (t : T (isNext j s c b)) where
@@ -122,10 +122,10 @@ module _ (D : LS.Delays) (fit : LM.Fit D) (s : Stream) (me : ℕ) (since : Momen
           short = x .sender .short;
         }
 
-    -- the book and everything but the line
-    given : (w : Which) → whichOf j c ≡ w → codeIn w ≡ c → giving node .bytes ≡ cond (eqb c 0) p []
+    -- the book and everything but the strand
+    given : (w : Which) → whichOf j c ≡ w → codeIn w ≡ c → giving node .bytes ≡ carries K p c
         → (a : Bool)
-        → Inv D (LM.twoM D) (twoMWorks D fit) (lineOf D s me p (After c) (onFrame w (gaveOut (next j b)) (x .k)) (x .hold)) a base
+        → Inv D (K .C) (K .works) (strandOf K s me p (After c) (onFrame w (gaveOut (next j b)) (x .k)) (x .hold)) a base
         → Follows (After c)
     given w which code bytes a inv =
         record {
@@ -134,9 +134,9 @@ module _ (D : LS.Delays) (fit : LM.Fit D) (s : Stream) (me : ℕ) (since : Momen
           books = books-given s b (v .ledger) j c t
               ∙ (ap (onNewest (onFrame (whichOf j c) (gaveOut (next j b)))) (x .books)
               ∙ ap (λ w. onFrame w (gaveOut (next j b)) (x .k) ∷ x .ks) which);
-          own = own-moved D s me since p b v (gives j s c) (onFrame w (gaveOut (next j b)) (x .k))
-              (own-on-frame s me since p b (x .k) w (gaveOut (next j b)) (λ y. refl)
-              (λ y h g. subst (λ d. (giving node .id ≡ idOf s d) × (giving node .bytes ≡ cond (eqb d 0) p [])) (sym code) (given-id, bytes)) (x .own));
+          own = own-moved K s me since p b v (gives j s c) (onFrame w (gaveOut (next j b)) (x .k))
+              (own-on-frame K s me since p b (x .k) w (gaveOut (next j b)) (λ y. refl)
+              (λ y h g. subst (λ d. (giving node .id ≡ idOf s d) × (giving node .bytes ≡ carries K p d)) (sym code) (given-id, bytes)) (x .own));
           hold = x .hold;
           sender = sender-given;
           old = λ n w h. x .old n w (send-back s b (gives j s c) (v .nodes) (nth noBook n (x .ks)) w h);
@@ -152,52 +152,65 @@ module _ (D : LS.Delays) (fit : LM.Fit D) (s : Stream) (me : ℕ) (since : Momen
       v .only j (both (slot .used) (wire.sends (slot .settings)) used (so (k .pending .payload-sent (is-true (slot .pending .payload) y))))
 
   not-plain-slot : T (slot .used) → T (slot .pending .payload) → payloadCode slot ≡ 0
-  not-plain-slot used y = cond-false (isPlain (slot .settings)) 3 0 (λ z.
-      let two = subst (λ i. T (isTwoMessage (slotAt s i b .settings))) (sym (data-sender used y)) (v .sender .1 .class) in
-      let c0 = eqb→eq (slot .settings .class) 0 z in
-      let c2 = eqb→eq (slot .settings .class) 2 two in
-      omega arith)
+  not-plain-slot used y =
+      cond-false (isPlain (slot .settings)) 3 0
+      (not-so (subst (λ i. isPlain (slotAt s i b .settings) ≡ false) (sym (data-sender used y)) (not-plain K (v .sender .1))))
+
+  -- who gives out a frame of its own message does not receive the stream
+  sends-not-receives : T (wire.sends (slot .settings)) → isReceiver slot ≡ false
+  sends-not-receives sends =
+      is-false (isReceiver slot)
+      (λ r. not-both slot r (both (slot .used) (wire.sends (slot .settings)) (and-l (slot .used) (receives (slot .settings)) r) sends))
 
   pub track-give : (c : ℕ) → T (isNext j s c b) → Follows (After c)
   unfolding payloadFor
   track-give c t = go (given-pending c t) refl
     where
+      kept : KeptSlot (node .counter) slot
+      kept = slot-kept s node (v .nodes j)
+
       data-given : T (slot .pending .payload) → T (isNext j s 0 b) → Follows (After 0)
       data-given y t =
           let isMe = data-sender (given-used 0 t) y in
           let bytes = given-bytes 0 t ∙ subst (λ i. payloadOf (slotAt s i b .message) ≡ p) (sym isMe)
           (x .sender .payload (subst (λ i. T (slotAt s i b .pending .payload)) isMe y)) in
           given 0 t thePayload refl refl bytes (x .a)
-          (subst (λ L. Inv D (LM.twoM D) (twoMWorks D fit) L (x .a) base)
-          (give-own-line D s me p b v j 0 t (x .k) (onFrame thePayload (gaveOut (next j b)) (x .k)) refl refl refl (x .hold) refl refl) (x .inv))
+          (subst (λ Z. Inv D (K .C) (K .works) Z (x .a) base)
+          (give-own-strand K s me p b v j 0 t (x .k) (onFrame thePayload (gaveOut (next j b)) (x .k)) refl refl refl (x .hold)
+          (sends-not-receives (so (kept .pending .payload-sent (is-true (slot .pending .payload) y)))) refl refl) (x .inv))
 
-      conf-given : T (isNext j s 1 b) → Follows (After 1)
-      conf-given t =
+      conf-given : T (slot .pending .confirmation) → T (isNext j s 1 b) → Follows (After 1)
+      conf-given y t =
           given 1 t theConfirmation refl refl (given-bytes 1 t) (x .a)
-          (subst (λ L. Inv D (LM.twoM D) (twoMWorks D fit) L (x .a) base)
-          (give-own-line D s me p b v j 1 t (x .k) (onFrame theConfirmation (gaveOut (next j b)) (x .k)) refl refl refl (x .hold) refl refl) (x .inv))
+          (subst (λ Z. Inv D (K .C) (K .works) Z (x .a) base)
+          (give-own-strand K s me p b v j 1 t (x .k) (onFrame theConfirmation (gaveOut (next j b)) (x .k)) refl refl refl (x .hold)
+          (sends-not-receives (so (kept .pending .confirmation-sent (is-true (slot .pending .confirmation) y) .0))) refl refl) (x .inv))
 
-      newest : (fs : List Frame) → map toFrame (at (gaveOut (next j b)) 0 fs) ≡ LF.giveNewest (map toFrame fs)
+      toFrames : List Frame → List OF.Frame
+      toFrames fs = map (toFrame (K .C .carried p)) fs
+
+      newest : (fs : List Frame) → toFrames (at (gaveOut (next j b)) 0 fs) ≡ OF.giveNewest (toFrames fs)
       newest [] = refl
       newest (f ∷ fs) = unfold toFrame in refl
 
-      abort-rows : (i : ℕ) → map toFrame (nth [] i (at (at (gaveOut (next j b)) 0) j (x .k .aborts)))
-          ≡ cond (eqb i j) (LF.giveNewest (map toFrame (nth [] i (x .k .aborts)))) (map toFrame (nth [] i (x .k .aborts)))
-      abort-rows i =
-          ap (map toFrame) (nth-at [] (at (gaveOut (next j b)) 0) i j (x .k .aborts) (inr refl))
-          ∙ into (map toFrame) (eqb i j) (newest (nth [] i (x .k .aborts))) refl
+      code2-rows : (i : ℕ) → toFrames (nth [] i (at (at (gaveOut (next j b)) 0) j (x .k .aborts)))
+          ≡ cond (eqb i j) (OF.giveNewest (toFrames (nth [] i (x .k .aborts)))) (toFrames (nth [] i (x .k .aborts)))
+      code2-rows i =
+          ap toFrames (nth-at [] (at (gaveOut (next j b)) 0) i j (x .k .aborts) (inr refl))
+          ∙ into toFrames (eqb i j) (newest (nth [] i (x .k .aborts))) refl
 
-      abort-given : T (isNext j s 2 b) → Follows (After 2)
-      abort-given t =
-          let r = act-keeps D (LM.twoM D) (twoMWorks D fit) (lineOf D s me p b (x .k) (x .hold)) (x .a) base (x .inv) (LH.on (LC.give j)) tt
+      code2-given : T (slot .pending .abort) → T (isNext j s 2 b) → Follows (After 2)
+      code2-given y t =
+          let r = act-keeps D (K .C) (K .works) (strandOf K s me p b (x .k) (x .hold)) (x .a) base (x .inv) (OH.on (OC.give j)) tt
           tt in
-          given 2 t (theAbort j 0) refl refl (given-bytes 2 t) (r .0)
-          (subst (λ L. Inv D (LM.twoM D) (twoMWorks D fit) L (r .0) base)
-          (give-abort-line D s me p b v j 2 t (x .k) (onFrame (theAbort j 0) (gaveOut (next j b)) (x .k)) refl refl refl (x .hold) refl abort-rows) (r .1))
+          given 2 t (theAbort j 0) refl refl (given-bytes 2 t ∙ K .gives slot p) (r .0)
+          (subst (λ Z. Inv D (K .C) (K .works) Z (r .0) base)
+          (give-code2-strand K s me p b v j 2 t (x .k) (onFrame (theAbort j 0) (gaveOut (next j b)) (x .k)) refl refl refl (x .hold) refl
+          (pending-receives s node (v .nodes j) y) code2-rows) (r .1))
 
       go : {d : ℕ} → IsPending slot d → d ≡ c → Follows (After c)
       go (Laws.thePayload y) e =
           let zero-is : c ≡ 0 = sym e ∙ not-plain-slot (given-used c t) y in
           subst (λ d. Follows (After d)) (sym zero-is) (data-given y (subst (λ d. T (isNext j s d b)) zero-is t))
-      go (Laws.theConfirmation y) e = subst (λ d. Follows (After d)) e (conf-given (subst (λ d. T (isNext j s d b)) (sym e) t))
-      go (Laws.theAbort y) e = subst (λ d. Follows (After d)) e (abort-given (subst (λ d. T (isNext j s d b)) (sym e) t))
+      go (Laws.theConfirmation y) e = subst (λ d. Follows (After d)) e (conf-given y (subst (λ d. T (isNext j s d b)) (sym e) t))
+      go (Laws.theAbort y) e = subst (λ d. Follows (After d)) e (code2-given y (subst (λ d. T (isNext j s d b)) (sym e) t))

@@ -1,72 +1,29 @@
--- The bench rules at an event of a 2M stream's newest message, read as the one-stream proof wants them.
+-- The bench rules at an event of a stream's newest message, read as the one-stream proof wants them.
 use Prim.Native.Nat.{ℕ, zero, suc, _+_, _≤_}
 use native.Mathlib.Omega.{arith}
 use native.Mathlib.Nat.{add-zero, zero-add}
 use mathlib.Core.Path.{_≡_, ap, sym, subst, _∙_}
 use mathlib.Core.Bool.{Bool, true, false, not, _&&_, _||_, cond}
 use mathlib.Core.List.{List, [], _∷_, map}
-use lib.Dec.{T, leb, eqb→eq, leb→le, T-not}
+use lib.Dec.{T, eqb→eq, T-not}
 use Rattle.wire.specs.declared.ids.Stream.{Stream}
 use Rattle.wire.specs.Settings.{isPlain}
 use Rattle.node.specs.Slots.{isReceiver}
-use Rattle.one_stream.proofs.Truth.{and-l, and-r, both, or-r}
+use Rattle.one_stream.proofs.Truth.{and-l, and-r, both, or-r, not-so}
 use Rattle.bench.specs.Bench.{Bench, Book, Frame, Ledger, Sendings, never, sent, pendingSince, isLive, slotAt, now, booksOf, booksIn}
 use Rattle.bench.specs.Bench.{frameOf, ownerOf, settingsOf, Which, thePayload, theConfirmation, theAbort, Moment, sameStream}
-use Rattle.bench.specs.Events.{ticks, step, named, isFull, To, all, only}
+use Rattle.bench.specs.Events.{ticks, step, named, isFull, To}
 use Rattle.bench.specs.Lists.{nth, each, every}
 use Rattle.bench.specs.Rules.{may, rule1, rule3, inTurn, inReach, within, wasSent, wasFull, servedBook, servedOwn, servedAborts}
 use Rattle.bench.proofs.laws.SlotAfterCall.{same-stream}
 use Rattle.bench.proofs.laws.ModuleAfterEvent.{countOf, asFunction, count-is}
-use Rattle.bench.proofs.demand3.ModuleSeen.{toSent, toFrame, toDelays, view}
-use Rattle.bench.proofs.demand3.SeenAfterOwnEvent.{TwoMessage, Valid, lineOf, lives, moves}
-use Rattle.one_stream.specs.Sendings as LS
-use Rattle.one_stream.specs.Frames as LF
-use Rattle.one_stream.specs.Classes as LC
-use Rattle.one_stream.specs.TwoM as LM
-
--- ── moments and sendings ──
-pub within-all : (R : ℕ) (from to : Moment) → T (within R from to) → (i : ℕ) → asFunction to i ≤ asFunction from i + R
-within-all R [] [] t i = omega arith
-within-all R [] (n ∷ ns) t i = absurd t
-within-all R (f ∷ fs) [] t i = absurd t
-within-all R (f ∷ fs) (n ∷ ns) t zero = leb→le n (f + R) (and-l (leb n (f + R)) (within R fs ns) t)
-within-all R (f ∷ fs) (n ∷ ns) t (suc i) = within-all R fs ns (and-r (leb n (f + R)) (within R fs ns) t) i
-
-fullness : (to : To) → LS.Fullness (named to) (isFull to)
-fullness all = λ i. tt
-fullness (only l) = tt
-
-pub was-full : (f : Frame) → LS.Full (toSent (f .sendings)) → T (wasFull f)
-unfolding toSent
-was-full f = go (f .sendings)
-  where
-    go : (d : Sendings) → LS.Full (toSent d) → T (elim d [ never ↦ false | sent a b c ↦ c ])
-    go never t = t
-    go (sent a b c) t = t
-
-pub full-was : (f : Frame) → T (wasFull f) → LS.Full (toSent (f .sendings))
-unfolding toSent
-full-was f = go (f .sendings)
-  where
-    go : (d : Sendings) → T (elim d [ never ↦ false | sent a b c ↦ c ]) → LS.Full (toSent d)
-    go never t = t
-    go (sent a b c) t = t
-
-was-sent : (f : Frame) → LS.Some (toSent (f .sendings)) → T (wasSent f)
-unfolding toSent
-was-sent f = go (f .sendings)
-  where
-    go : (d : Sendings) → LS.Some (toSent d) → T (elim d [ never ↦ false | sent a b c ↦ true ])
-    go never t = t
-    go (sent a b c) t = t
-
-sent-was : (f : Frame) → T (wasSent f) → LS.Some (toSent (f .sendings))
-unfolding toSent
-sent-was f = go (f .sendings)
-  where
-    go : (d : Sendings) → T (elim d [ never ↦ false | sent a b c ↦ true ]) → LS.Some (toSent d)
-    go never t = t
-    go (sent a b c) t = t
+use Rattle.bench.proofs.message.SendingsSeen.{toSent, was-full, was-sent, fullness, within-all}
+use Rattle.bench.proofs.message.ClassOnBench.{toDelays, OfClass, ClassOnBench}
+use Rattle.bench.proofs.message.ModuleSeen.{toFrame, view, not-plain}
+use Rattle.bench.proofs.message.SeenAfterOwnEvent.{Valid, carried, strandOf, lives, moves}
+use Rattle.one_stream.specs.Sendings as OS
+use Rattle.one_stream.specs.Frames as OF
+use Rattle.one_stream.specs.Classes as OC
 
 -- ── a sending ──
 abbrev pub maySend : Bench → Stream → Book → Which → Bool
@@ -85,7 +42,7 @@ module _ (b : Bench) (s : Stream) (k : Book) (w : Which) (t : T (maySend b s k w
   pub was-given : T (f .given)
   was-given = and-r (isLive (ownerOf w k) b) (f .given) (and-l (isLive (ownerOf w k) b && f .given) (not (wasFull f)) first-rule)
 
-  not-full : LS.Full (toSent (f .sendings)) → ⊥
+  not-full : OS.Full (toSent (f .sendings)) → ⊥
   not-full y = T-not (wasFull f) (and-r (isLive (ownerOf w k) b && f .given) (not (wasFull f)) first-rule) (was-full f y)
 
   in-turn : T (inTurn k w)
@@ -94,21 +51,21 @@ module _ (b : Bench) (s : Stream) (k : Book) (w : Which) (t : T (maySend b s k w
   in-reach : T (inReach (settingsOf s k b) k w (now b))
   in-reach = and-r (inTurn k w) (inReach (settingsOf s k b) k w (now b)) (and-r (rule1 b k w) (rule3 b s k w) t)
 
-module _ (D : LS.Delays) (s : Stream) (me : ℕ) (p : List ℕ) (b : Bench) (v : Valid D s me b) (k : Book) (sender : k .sender ≡ me)
-    (hold : Bool) where
-  settings : TwoMessage D (settingsOf s k b)
-  settings = subst (λ i. TwoMessage D (slotAt s i b .settings)) (sym sender) (v .sender .1)
+module _ {n : ℕ} {D : OS.Delays} (K : ClassOnBench n D) (s : Stream) (me : ℕ) (p : List ℕ) (b : Bench) (v : Valid n D s me b) (k : Book)
+    (sender : k .sender ≡ me) (hold : Bool) where
+  settings : OfClass n D (settingsOf s k b)
+  settings = subst (λ i. OfClass n D (slotAt s i b .settings)) (sym sender) (v .sender .1)
 
   -- the numbers of the message's stream
-  number : (g : LS.Delays → ℕ) → g (toDelays (settingsOf s k b)) ≡ g D
+  number : (g : OS.Delays → ℕ) → g (toDelays (settingsOf s k b)) ≡ g D
   number g = ap g (settings .numbers)
 
   now-is : (i : ℕ) → asFunction (now b) i ≡ countOf b i
   now-is i = count-is i (b .modules)
 
   pub legal-data : (to : To) → T (maySend b s k thePayload)
-      → LC.Legal (LM.twoM D) D (lineOf D s me p b k hold .state) (LC.sendData (named to) (isFull to))
-  unfolding LC.Legal
+      → OC.Legal (K .C) D (strandOf K s me p b k hold .state) (OC.sendData (named to) (isFull to))
+  unfolding OC.Legal
   legal-data to t = (
     fullness to,
     not-full b s k thePayload t,
@@ -117,40 +74,34 @@ module _ (D : LS.Delays) (s : Stream) (me : ℕ) (p : List ℕ) (b : Bench) (v :
   )
     where
       reach : T (within (settingsOf s k b .rd) (k .payloadFrame .since) (now b))
-      reach = go (isPlain (settingsOf s k b)) not-plain-class (in-reach b s k thePayload t)
+      reach = go (isPlain (settingsOf s k b)) (not-so (not-plain K settings)) (in-reach b s k thePayload t)
         where
-          not-plain-class : T (isPlain (settingsOf s k b)) → ⊥
-          not-plain-class y =
-              let c0 = eqb→eq (settingsOf s k b .class) 0 y in
-              let c2 = eqb→eq (settingsOf s k b .class) 2 (settings .class) in
-              omega arith
-
           go : (a : Bool) → (T a → ⊥) → T (a || within (settingsOf s k b .rd) (k .payloadFrame .since) (now b))
               → T (within (settingsOf s k b .rd) (k .payloadFrame .since) (now b))
           go true n y = absurd (n tt)
           go false n y = y
 
   pub legal-conf : (to : To) → T (maySend b s k theConfirmation)
-      → LC.Legal (LM.twoM D) D (lineOf D s me p b k hold .state) (LC.sendConf (named to) (isFull to))
-  unfolding LC.Legal
+      → OC.Legal (K .C) D (strandOf K s me p b k hold .state) (OC.sendConf (named to) (isFull to))
+  unfolding OC.Legal
   legal-conf to t = (
     fullness to,
     not-full b s k theConfirmation t,
-    sent-was (k .payloadFrame) (in-turn b s k theConfirmation t),
+    K .ready (k .payloadFrame) (in-turn b s k theConfirmation t),
     λ i. omega (arith, first-reach (k .payloadFrame .sendings) (in-reach b s k theConfirmation t) i, number (λ d. d .dc)),
   )
     where
       first-reach : (d : Sendings) → T (elim d [ never ↦ false | sent x y z ↦ within (settingsOf s k b .dc) x (now b) ])
-          → (i : ℕ) → countOf b i ≤ LS.first (toSent d) i + settingsOf s k b .dc
+          → (i : ℕ) → countOf b i ≤ OS.first (toSent d) i + settingsOf s k b .dc
       first-reach never h i = absurd h
       first-reach (sent x y z) h i = unfold toSent in omega (arith, within-all (settingsOf s k b .dc) x (now b) h i, now-is i)
 
-  -- rows: an abort's owner receives the stream
+  -- rows: the owner of a frame of code 2 receives the stream
   module _ (rows : (q : ℕ) → T (not (isReceiver (slotAt s q b))) → nth [] q (k .aborts) ≡ []) where
-    pub legal-abort : (q y : ℕ) (to : To) → T (maySend b s k (theAbort q y))
-        → LC.Legal (LM.twoM D) D (lineOf D s me p b k hold .state) (LC.sendCode2 q y (named to) (isFull to))
-    unfolding LC.Legal view
-    legal-abort q y to t = (
+    pub legal-code2 : (q y : ℕ) (to : To) → T (maySend b s k (theAbort q y))
+        → OC.Legal (K .C) D (strandOf K s me p b k hold .state) (OC.sendCode2 q y (named to) (isFull to))
+    unfolding OC.Legal view
+    legal-code2 q y to t = (
       fullness to,
       both (isLive q b) (isReceiver (slotAt s q b)) (owner-lives b s k (theAbort q y) t) receiver,
       frame-at y (nth [] q (k .aborts)) (was-given b s k (theAbort q y) t) (not-full b s k (theAbort q y) t)
@@ -170,9 +121,9 @@ module _ (D : LS.Delays) (s : Stream) (me : ℕ) (p : List ℕ) (b : Bench) (v :
             go false h = absurd (h tt)
 
         frame-at : (y : ℕ) (fs : List Frame) → T (nth (pendingSince []) y fs .given)
-            → (LS.Full (toSent (nth (pendingSince []) y fs .sendings)) → ⊥)
+            → (OS.Full (toSent (nth (pendingSince []) y fs .sendings)) → ⊥)
             → T (within (settingsOf s k b .ra) (nth (pendingSince []) y fs .since) (now b))
-            → LF.At (LF.MaySend D (countOf b)) y (map toFrame fs)
+            → OF.At (OF.MaySend D (countOf b)) y (map (toFrame (carried K s me p)) fs)
         frame-at y [] g n r = absurd g
         frame-at zero (f ∷ fs) g n r = unfold toFrame in
             record {
@@ -215,32 +166,30 @@ open-or : (a b : Bool) → T (not a || b) → T a → T b
 open-or true b t l = t
 open-or false b t l = absurd l
 
-frame-served : (R : ℕ) (t : Moment) (f : Frame) (d : Sendings) → T (elim d [ never ↦ false | sent a b c ↦ true ] || within R (f .since) t)
-    → (LS.Some (toSent d) → ⊥) → (i : ℕ) → asFunction t i ≤ asFunction (f .since) i + R
-unfolding toSent
-frame-served R t f never h n i = within-all R (f .since) t h i
-frame-served R t f (sent a b c) h n i = absurd (n tt)
-
-frames-served : (D : LS.Delays) (R : ℕ) → R ≡ D .ra → (t : Moment) (c : ℕ → ℕ) → ((i : ℕ) → asFunction t i ≡ c i) → (fs : List Frame)
-    → T (every (λ f. wasSent f || within R (f .since) t) fs) → LF.Each (LC.Served (LM.twoM D) D c) (map toFrame fs)
-unfolding toFrame
-frames-served D R e t c now [] h = tt
-frames-served D R e t c now (f ∷ fs) h =
-    let here = wasSent f || within R (f .since) t in
-    let rest = every (λ f. wasSent f || within R (f .since) t) fs in (
-      λ n i. omega (arith, frame-served R t f (f .sendings) (and-l here rest h) n i, now i),
-      frames-served D R e t c now fs
-          (and-r here rest h),
-    )
-
-module _ (D : LS.Delays) (s : Stream) (me : ℕ) (p : List ℕ) (b : Bench) (v : Valid D s me b) (k : Book) (sender : k .sender ≡ me)
-    (hold : Bool)
+module _ {n : ℕ} {D : OS.Delays} (K : ClassOnBench n D) (s : Stream) (me : ℕ) (p : List ℕ) (b : Bench) (v : Valid n D s me b) (k : Book)
+    (sender : k .sender ≡ me) (hold : Bool)
     (ks : List Book) (books : booksOf s b ≡ k ∷ ks) where
-  pub legal-tick : T (may b ticks) → LC.Legal (LM.twoM D) D (lineOf D s me p b k hold .state) (LC.tick (lives D s me p b))
-  unfolding LC.Legal view may
+  -- every frame is served, or its reach is not over
+  frames-served : (R : ℕ) → R ≡ D .ra → (t : Moment) (c : ℕ → ℕ) → ((i : ℕ) → asFunction t i ≡ c i) → (fs : List Frame)
+      → T (every (λ f. wasSent f || within R (f .since) t) fs) → OF.Each (OC.Served (K .C) D c) (map (toFrame (carried K s me p)) fs)
+  unfolding toFrame
+  frames-served R e t c now [] h = tt
+  frames-served R e t c now (f ∷ fs) h =
+      let here = wasSent f || within R (f .since) t in
+      let rest = every (λ f. wasSent f || within R (f .since) t) fs in (
+        λ n i. omega (arith, within-all R (f .since) t (in-time (wasSent f) (λ y. n (K .done f y)) (and-l here rest h)) i, now i),
+        frames-served R e t c now fs (and-r here rest h),
+      )
+    where
+      in-time : (a : Bool) → (T a → ⊥) → T (a || within R (f .since) t) → T (within R (f .since) t)
+      in-time true n h = absurd (n tt)
+      in-time false n h = h
+
+  pub legal-tick : T (may b ticks) → OC.Legal (K .C) D (strandOf K s me p b k hold .state) (OC.tick (lives K s me p b))
+  unfolding OC.Legal view may
   legal-tick h i l =
-      frames-served D (settingsOf s k b .ra) (number D s me p b v k sender hold (λ d. d .ra)) t (LS.move (lives D s me p b) (countOf b))
-      (λ j. count-is j (step b ticks .modules) ∙ sym (ap (λ (c : ℕ → ℕ). c j) (moves D s me p b))) (nth [] i (k .aborts))
+      frames-served (settingsOf s k b .ra) (number K s me p b v k sender hold (λ d. d .ra)) t (OS.move (lives K s me p b) (countOf b))
+      (λ j. count-is j (step b ticks .modules) ∙ sym (ap (λ (c : ℕ → ℕ). c j) (moves K s me p b))) (nth [] i (k .aborts))
       (open-or (isLive i b) (every (λ f. wasSent f || within (settingsOf s k b .ra) (f .since) t) (nth [] i (k .aborts))) served-row
       (and-l (isLive i b) (isReceiver (slotAt s i b)) l))
     where

@@ -1,12 +1,12 @@
--- What a proper plan gives: kept nodes, and for each 2M stream one sender, equal settings that fit, a ledger, no message yet.
-use Prim.Native.Nat.{ℕ, zero, suc, _+_, _≤_, _<_}
+-- What a proper plan gives: kept nodes, and for each stream of a class one sender, equal settings, a ledger, no message yet.
+use Prim.Native.Nat.{ℕ, zero, suc, _≤_, _<_}
 use native.Mathlib.Omega.{arith}
 use mathlib.Core.Path.{_≡_, refl, ap, sym, subst, _∙_}
 use mathlib.Core.Logic.{_⊎_, inl, inr}
-use mathlib.Core.Bool.{Bool, true, false, not, _&&_, _||_, cond, true≢false}
+use mathlib.Core.Bool.{Bool, true, false, not, _&&_, _||_, cond}
 use mathlib.Core.List.{List, [], _∷_, _++_, map}
 use lib.ListN.{length}
-use lib.Dec.{T, leb, eqb, eqb-refl, eqb→eq, leb→le, T-not}
+use lib.Dec.{T, leb, eqb, eqb-refl, eqb→eq, T-not}
 use native.Mathlib.Decide.{decLe}
 use Rattle.wire.specs.declared.ids.Stream.{Stream}
 use Rattle.wire.specs.declared.reply.Reply.{Reply}
@@ -14,8 +14,8 @@ use Rattle.wire.specs.declared.settings.Settings.{Settings}
 use Rattle.node.specs.declared.slots.Slot.{Slot}
 use Rattle.node.specs.declared.Node.{Node}
 use Rattle.wire.specs.declared.reply.Reply.the-variants.{BadSettings, Taken, TableFull}
-use Rattle.wire.specs.Identifiers.{maxStream}
-use Rattle.wire.specs.Settings.{receives, isPlain, isImd, isTwoMessage, legal}
+use Rattle.wire.specs.Settings.{receives, legal}
+use Rattle.wire.proofs.LegalSettings.{legal-tells}
 use Rattle.node.specs.Calls.{after, afterFrom}
 use Rattle.node.specs.Clock.{unbounded}
 use Rattle.node.specs.Nodes.{slotOf, hasSlot, fresh, refused, Outcome, done, withSlots}
@@ -34,13 +34,11 @@ use Rattle.bench.proofs.laws.SlotAfterCall.{Same, stream-of-slot, slot-
 use Rattle.bench.proofs.laws.ModuleAfterEvent.{decide-stream}
 use Rattle.bench.proofs.laws.BooksAfterEvent.{listed}
 use Rattle.bench.proofs.laws.FramesOfBooks.{Labels, no-frame}
-use Rattle.bench.proofs.demand3.ModuleSeen.{toDelays}
-use Rattle.bench.proofs.demand3.SeenAfterOwnEvent.{Valid, not-both}
-use Rattle.bench.proofs.demand3.ThroughHistory.{Quiet, NoBook}
+use Rattle.bench.proofs.message.ClassOnBench.{toDelays}
+use Rattle.bench.proofs.message.SeenAfterOwnEvent.{Valid, not-both}
+use Rattle.bench.proofs.message.ThroughHistory.{Quiet, NoBook}
 use Rattle.node.specs.SetUp as SetUp
 use Rattle.wire.specs.Settings as wire
-use Rattle.one_stream.specs.Sendings as LS
-use Rattle.one_stream.specs.TwoM as LM
 
 -- ── setting up a stream ──
 -- the first slot of a stream, where a free slot was taken for one
@@ -262,65 +260,7 @@ alike-of s e f p q t =
         go true o t = t
         go false o t = absurd o
 
--- the numbers of legal 2M settings fit
-fits : (s : Stream) (set : Settings) → T (isTwoMessage set) → T (legal s set) → (s .0 ≤ maxStream) × LM.Fit (toDelays set)
-unfolding legal
-fits s set two t = (
-  leb→le (s .0) maxStream (and-l (leb (s .0) maxStream) (leb (set .role) 1) (and-l (leb (s .0) maxStream && leb (set .role) 1) classes t)),
-  record {
-    confirmAfterData = leb→le (set .rd) (set .dc) data-first;
-    deliverAfterAbort = omega (arith, leb→le (set .dc + set .ra + 1) (set .dd) abort-first);
-  },
-)
-  where
-    numbers : Bool
-    numbers = wire.twoMessage (set .rd) (set .dc) (set .ra) (set .dd)
-
-    classes : Bool
-    classes =
-        isPlain set && wire.plain (set .rd) (set .dc) (set .ra) (set .dd) || isImd set && wire.imd (set .rd) (set .dc) (set .ra) (set .dd)
-        || isTwoMessage set && numbers
-
-    class : set .class ≡ 2
-    class = eqb→eq (set .class) 2 two
-
-    twoNumbers : T numbers
-    twoNumbers =
-        go (isPlain set) (isImd set) (isTwoMessage set) (rw class refl) (rw class refl)
-        (and-r (leb (s .0) maxStream && leb (set .role) 1) classes t)
-      where
-        go : (a i m : Bool) → a ≡ false → i ≡ false
-            → T (a && wire.plain (set .rd) (set .dc) (set .ra) (set .dd) || i && wire.imd (set .rd) (set .dc) (set .ra) (set .dd) || m &&
-            numbers) → T numbers
-        go true i m e f t = absurd (true≢false e)
-        go false true m e f t = absurd (true≢false f)
-        go false false true e f t = t
-        go false false false e f t = absurd t
-
-    five : Bool
-    five =
-        leb 1 (set .rd) && leb (set .rd) wire.maxDataReach && leb (set .rd) (set .dc) && leb (set .dc) wire.maxConfirmDelay && leb 1
-        (set .ra)
-
-    six : Bool
-    six = five && leb (set .ra) wire.maxAbortReach
-
-    abort-first : T (leb (set .dc + set .ra + 1) (set .dd))
-    abort-first =
-        and-r six (leb (set .dc + set .ra + 1) (set .dd))
-        (and-l (six && leb (set .dc + set .ra + 1) (set .dd)) (leb (set .dd) wire.maxDeliverDelay) twoNumbers)
-
-    data-first : T (leb (set .rd) (set .dc))
-    data-first =
-        let two-tests = leb 1 (set .rd) && leb (set .rd) wire.maxDataReach in
-        let three-tests = two-tests && leb (set .rd) (set .dc) in
-        let seven-hold = and-l (six && leb (set .dc + set .ra + 1) (set .dd)) (leb (set .dd) wire.maxDeliverDelay) twoNumbers in
-        let five-hold = and-l five (leb (set .ra) wire.maxAbortReach) (and-l six (leb (set .dc + set .ra + 1) (set .dd)) seven-hold) in
-        and-r two-tests (leb (set .rd) (set .dc))
-        (and-l three-tests (leb (set .dc) wire.maxConfirmDelay)
-        (and-l (three-tests && leb (set .dc) wire.maxConfirmDelay) (leb 1 (set .ra)) five-hold))
-
--- ── a 2M stream that a module of a proper plan sends ──
+-- ── a stream that a module of a proper plan sends ──
 module _ (plan : Plan) (ok : T (proper plan)) (s : Stream) where
   abbrev b₀ : Bench
   b₀ = start plan
@@ -392,36 +332,29 @@ module _ (plan : Plan) (ok : T (proper plan)) (s : Stream) where
       none : (z : Stream) → booksOf z b₀ ≡ []
       none z = unfold start in no-books z (allEntries plan)
 
-  module _ (me : ℕ) (sender : T (isSender (slotAt s me b₀))) (two : T (isTwoMessage (slotAt s me b₀ .settings))) where
-    abbrev pub planned : LS.Delays
-    planned = toDelays (slotAt s me b₀ .settings)
-
+  module _ (me : ℕ) (sender : T (isSender (slotAt s me b₀))) where
     me-used : T (slotAt s me b₀ .used)
     me-used = used-of (slotAt s me b₀) (inr sender)
 
-    fit-small : (s .0 ≤ maxStream) × LM.Fit planned
-    fit-small =
+    pub start-lawful : T (legal s (slotAt s me b₀ .settings))
+    start-lawful =
         let x = slotAt s me b₀ in
         let k = slot-kept s (moduleAt me b₀ .node) (start-kept me) in
-        fits s (x .settings) two (subst (λ z. T (legal z (x .settings))) (stream-of-slot s (moduleAt me b₀ .node) me-used)
-        (so (k .lawful (is-true (x .used) me-used))))
+        subst (λ z. T (legal z (x .settings))) (stream-of-slot s (moduleAt me b₀ .node) me-used) (so (k .lawful (is-true (x .used) me-used)))
 
-    pub start-fits : LM.Fit planned
-    start-fits = fit-small .1
-
-    pub start-valid : Valid planned s me b₀
-    start-valid =
+    pub start-valid : {n : ℕ} → T (eqb (slotAt s me b₀ .settings .class) n) → Valid n (toDelays (slotAt s me b₀ .settings)) s me b₀
+    start-valid {n} of =
         record {
           nodes = start-kept;
-          small = fit-small .0;
+          small = legal-tells s (slotAt s me b₀ .settings) .says (is-true (legal s (slotAt s me b₀ .settings)) start-lawful) .stream;
           receivers = λ i t.
               let differ : i ≡ me → ⊥ = λ e. not-both (slotAt s me b₀) (subst (λ j. T (isReceiver (slotAt s j b₀))) e t) sender in
               let a = alike i me differ (used-of (slotAt s i b₀) (inl t)) me-used in
               record {
-                class = subst (λ n. T (eqb n 2)) (sym (a .class)) two;
+                class = subst (λ c. T (eqb c n)) (sym (a .class)) of;
                 numbers = λ j. record { rd = a .rd j; dc = a .dc j; ra = a .ra j; dd = a .dd j; e = 0; da = 0 };
               };
-          sender = (sender, record { class = two; numbers = refl });
+          sender = (sender, record { class = of; numbers = refl });
           only = λ i t. go i t (decide (eqb i me));
           ledger = listed-me;
           labels = start-labels;

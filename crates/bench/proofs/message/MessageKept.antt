@@ -1,63 +1,65 @@
--- What is known of a 2M stream from an accepted request on, and that every event keeps it: the newest book, its line with the
+-- What is known of a stream from an accepted request on, and that every event keeps it: the newest book, its strand with the
 -- one-stream invariant, the sender's slot, and that nothing of older messages may be sent.
 use Prim.Native.Nat.{ℕ, _+_, _-_, _≤_}
 use native.Mathlib.Omega.{arith}
 use mathlib.Core.Path.{_≡_, refl, ap, sym, subst, _∙_}
-use mathlib.Core.Logic.{_⊎_, inl, inr}
+use mathlib.Core.Logic.{inl, inr}
 use mathlib.Core.Bool.{Bool, true, false, not, _&&_, _||_, cond}
 use mathlib.Core.List.{List, [], _∷_}
 use lib.ListN.{length}
 use lib.Dec.{T, ltb, leb, eqb, leb→le, le→leb, T-not}
 use Rattle.wire.specs.declared.ids.Stream.{Stream}
-use Rattle.wire.specs.declared.ids.BusId.{BusId}
 use Rattle.wire.specs.declared.settings.Settings.{Settings}
 use Rattle.node.specs.declared.slots.Slot.{Slot}
 use Rattle.node.specs.declared.Node.{Node}
-use Rattle.wire.specs.Classes.{carries}
-use Rattle.wire.specs.Frames.{badFrame}
-use Rattle.wire.specs.Identifiers.{idOf, codeOf, streamOf}
+use Rattle.wire.specs.Frames.{maxPayload}
+use Rattle.wire.specs.Identifiers.{idOf}
 use Rattle.wire.specs.Settings.{receives, isPlain, legal}
 use Rattle.node.specs.Clock.{unbounded}
-use Rattle.node.specs.Hear.{clashes, heardBy}
 use Rattle.node.specs.Nodes.{slotOf, given}
 use Rattle.node.specs.Reachable.{Kept}
 use Rattle.node.specs.Slots.{isReceiver, isSender, payloadOf}
 use Rattle.node.specs.Tick.{late, due, holdOver, lapsed}
 use Rattle.node.proofs.slots.Streams.{Kind}
-use Rattle.one_stream.proofs.Chain.{Works, Inv, act-keeps}
+use Rattle.one_stream.proofs.Books.{Paced}
+use Rattle.one_stream.proofs.Chain.{Inv, stretch, act-keeps, message-step}
 use Rattle.one_stream.proofs.Truth.{cond-elim, cond-false, and-l, and-r, both, is-true, is-false, so, not-so}
-use Rattle.one_stream.proofs.TwoMEnd.{twoMWorks}
 use Rattle.bench.specs.Bench.{Module, Bench, Book, Frame, Sendings, never, sent, pendingSince, noBook, moduleAt, isLive, slotAt, now}
 use Rattle.bench.specs.Bench.{bookOf, booksOf, frameOf, ownerOf, settingsOf, Which, thePayload, theConfirmation, theAbort, Moment}
 use Rattle.bench.specs.Events.{Event, sends, ticks, dies, step, ticked, named, isFull, To, sentOnce, onFrame, onNewest, becamePending}
 use Rattle.bench.specs.Events.{moved}
 use Rattle.bench.specs.Lists.{nth, at}
 use Rattle.bench.specs.Rules.{may, rule1, rule3, inTurn, inReach, within, wasFull}
-use Rattle.bench.proofs.laws.SlotAfterCall.{Same, slot-kept, takes, hearing, hear-own, hear-other, tick-slot}
-use Rattle.bench.proofs.laws.ModuleAfterEvent.{nth-at, tickedLive, module-step, decide-stream, moved-step, Elsewhere, untouched-step, length-at}
+use Rattle.bench.proofs.laws.SlotAfterCall.{slot-kept, tick-slot}
+use Rattle.bench.proofs.laws.ModuleAfterEvent.{nth-at, tickedLive, module-step, dead-node, deaf, moved-step, Elsewhere, untouched-step, length-at}
 use Rattle.bench.proofs.laws.ModuleAfterEvent.{size-step, countOf, asFunction, Later, later-step}
 use Rattle.bench.proofs.laws.BooksAfterEvent.{entering, books-ticked, books-dead}
 use Rattle.bench.proofs.laws.FramesOfBooks.{codeIn, AllFrames, all-on-frame, all-entering}
-use Rattle.bench.proofs.demand3.ModuleSeen.{view}
-use Rattle.bench.proofs.demand3.StreamSeen.{row-enter, length-enter}
-use Rattle.bench.proofs.demand3.SeenAfterOwnEvent.{Valid, not-both, lineOf, lives, tick-line, bookAfter, books-after, data-line, conf-line, abort-line}
-use Rattle.bench.proofs.demand3.SeenAfterOtherEvent.{dead-node, die-other-line, die-own-line, else-line}
-use Rattle.bench.proofs.demand3.RulesSeen.{maySend, was-given, legal-data, legal-conf, legal-abort, legal-tick}
+use Rattle.bench.proofs.message.ClassOnBench.{ClassOnBench}
+use Rattle.bench.proofs.message.ModuleSeen.{view}
+use Rattle.bench.proofs.message.StreamSeen.{row-enter, length-enter}
+use Rattle.bench.proofs.message.SeenAfterOwnEvent.{Valid, not-both, strandOf, lives, Bytes, tick-strand, bookAfter, books-after, data-strand}
+use Rattle.bench.proofs.message.SeenAfterOwnEvent.{conf-strand, code2-strand}
+use Rattle.bench.proofs.message.SeenAfterOtherEvent.{die-other-strand, die-own-strand, else-strand}
+use Rattle.bench.proofs.message.RulesSeen.{maySend, was-given, legal-data, legal-conf, legal-code2, legal-tick}
 use Rattle.one_stream.proofs.Sendings.{move-reached}
-use Rattle.one_stream.specs.Sendings as LS
-use Rattle.one_stream.specs.Classes as LC
-use Rattle.one_stream.proofs.Histories as LH
-use Rattle.one_stream.specs.TwoM as LM
+use Rattle.one_stream.specs.Sendings as OS
+use Rattle.one_stream.specs.Classes as OC
+use Rattle.one_stream.proofs.Histories as OH
 
 -- ── the record ──
--- what a frame with this code carries, once it was given out
-abbrev pub Content : Stream → List ℕ → ℕ → Frame → Type 0
-Content s p c f = T (f .given) → (f .id ≡ idOf s c) × (f .payload ≡ cond (eqb c 0) p [])
+-- what a frame with this code carries of the message
+abbrev pub carries : {n : ℕ} {D : OS.Delays} → ClassOnBench n D → List ℕ → ℕ → List ℕ
+carries K p c = cond (eqb c 0) p (cond (eqb c 2) (K .C .carried p) [])
 
-pub record Own (s : Stream) (me : ℕ) (since : Moment) (p : List ℕ) (b : Bench) (k : Book) : Type 0 where
+-- once it was given out
+abbrev pub Content : {n : ℕ} {D : OS.Delays} → ClassOnBench n D → Stream → List ℕ → ℕ → Frame → Type 0
+Content K s p c f = T (f .given) → (f .id ≡ idOf s c) × (f .payload ≡ carries K p c)
+
+pub record Own {n : ℕ} {D : OS.Delays} (K : ClassOnBench n D) (s : Stream) (me : ℕ) (since : Moment) (p : List ℕ) (b : Bench) (k : Book) : Type 0 where
   pub sender : k .sender ≡ me
   pub asked : k .payloadFrame .since ≡ since
-  pub content : AllFrames (Content s p) k
+  pub content : AllFrames (Content K s p) k
   pub size : length (k .aborts) ≡ length (b .modules)
   pub rows : (q : ℕ) → T (not (isReceiver (slotAt s q b))) → nth [] q (k .aborts) ≡ []
 
@@ -65,20 +67,20 @@ pub record Sender (s : Stream) (me : ℕ) (since : Moment) (p : List ℕ) (b : B
   pub holds : T (isLive me b) → hold ≡ slotAt s me b .message .held
   pub stamp : T (slotAt s me b .message .held) → slotAt s me b .message .stamp ≡ asFunction since me
   pub payload : T (slotAt s me b .pending .payload) → payloadOf (slotAt s me b .message) ≡ p
-  pub short : length p ≤ 8
+  pub short : length p ≤ maxPayload
 
 -- the message p was requested at `since`; base: what each module had delivered by then
-pub record Track (D : LS.Delays) (fit : LM.Fit D) (s : Stream) (me : ℕ) (since : Moment) (p : List ℕ) (base : ℕ → List LC.Note) (b : Bench) :
-    Type 0 where
+pub record Track {n : ℕ} {D : OS.Delays} (K : ClassOnBench n D) (s : Stream) (me : ℕ) (since : Moment) (p : List ℕ) (base : ℕ → List OC.Note)
+    (b : Bench) : Type 0 where
   pub k : Book
   pub ks : List Book
   pub books : booksOf s b ≡ k ∷ ks
-  pub own : Own s me since p b k
+  pub own : Own K s me since p b k
   pub hold : Bool
   pub sender : Sender s me since p b hold
   pub old : (n : ℕ) (w : Which) → T (maySend b s (nth noBook n ks) w) → ⊥
   pub a : Bool
-  pub inv : Inv D (LM.twoM D) (twoMWorks D fit) (lineOf D s me p b k hold) a base
+  pub inv : Inv D (K .C) (K .works) (strandOf K s me p b k hold) a base
 
 -- ── what may not be sent any more stays so ──
 within-back : (R : ℕ) (f t t′ : Moment) → Later t t′ → T (within R f t′) → T (within R f t)
@@ -132,25 +134,6 @@ send-back s b e kept-nodes k w =
 not-receiver : (x : Slot) → T (isSender x) → isReceiver x ≡ false
 not-receiver x t = is-false (isReceiver x) (λ r. not-both x r t)
 
--- a slot that does not receive hears nothing
-deaf : (s : Stream) (id : BusId) (bytes : List ℕ) (n : Node) → isReceiver (slotOf s n) ≡ false
-    → slotOf s (hearing id bytes n .node) ≡ slotOf s n
-deaf s id bytes n e = go (decide-stream s (streamOf id))
-  where
-    go : (s ≡ streamOf id) ⊎ (Same s (streamOf id) → ⊥) → slotOf s (hearing id bytes n .node) ≡ slotOf s n
-    go (inr other) = hear-other s id bytes n other
-    go (inl q) =
-        subst (λ z. slotOf z (hearing id bytes n .node) ≡ slotOf z n) (sym q)
-        (hear-own id bytes n ∙ cond-false (takes id (length bytes) bytes x) (heardBy (n .counter) (codeOf id) bytes x) x
-        (λ t. not-so (subst (λ z. isReceiver (slotOf z n) ≡ false) q e)
-        (and-l (isReceiver x) fits (and-r (not (badFrame id (length bytes) (length bytes))) (isReceiver x && fits) t))))
-      where
-        fits : Bool
-        fits = carries (slotOf (streamOf id) n .settings .class) (codeOf id) && not (clashes (codeOf id) bytes (slotOf (streamOf id) n))
-
-        x : Slot
-        x = slotOf (streamOf id) n
-
 -- an abort is pending at receivers alone
 pub pending-receives : (s : Stream) (n : Node) → Kept n → T (slotOf s n .pending .abort) → T (isReceiver (slotOf s n))
 pending-receives s n k t =
@@ -163,14 +146,15 @@ pending-receives s n k t =
     used false e = absurd (subst (λ (y : Slot). T (y .pending .abort)) (slot-kept s n k .free e) t)
 
 -- ── the newest book ──
-module _ (D : LS.Delays) (s : Stream) (me : ℕ) (since : Moment) (p : List ℕ) (b : Bench) (v : Valid D s me b) (e : Event) where
+module _ {n : ℕ} {D : OS.Delays} (K : ClassOnBench n D) (s : Stream) (me : ℕ) (since : Moment) (p : List ℕ) (b : Bench) (v : Valid n D s me b)
+    (e : Event) where
   abbrev next-bench : Bench
   next-bench = step b e
 
   receives-back : (q : ℕ) → T (not (isReceiver (slotAt s q next-bench))) → T (not (isReceiver (slotAt s q b)))
   receives-back q = subst (λ (κ : Kind). T (not (κ .used && receives (κ .settings)))) (moved-step s b e q (v .nodes q) .kind)
 
-  pub own-moved : (k : Book) → Own s me since p b k → Own s me since p next-bench k
+  pub own-moved : (k : Book) → Own K s me since p b k → Own K s me since p next-bench k
   own-moved k o =
       record {
         sender = o .sender;
@@ -181,12 +165,12 @@ module _ (D : LS.Delays) (s : Stream) (me : ℕ) (since : Moment) (p : List ℕ)
       }
 
   -- what became pending was entered; the sizes and rows are those before
-  pub own-entering : (k : Book) → Own s me since p b k → Own s me since p next-bench (entering s (b .modules) (next-bench .modules) k)
+  pub own-entering : (k : Book) → Own K s me since p b k → Own K s me since p next-bench (entering s (b .modules) (next-bench .modules) k)
   own-entering k o =
       record {
         sender = o .sender;
         asked = o .asked;
-        content = all-entering (Content s p) s (b .modules) (next-bench .modules) (λ t. absurd t) k (o .content);
+        content = all-entering (Content K s p) s (b .modules) (next-bench .modules) (λ t. absurd t) k (o .content);
         size = length-enter (now next-bench) s (b .modules) (next-bench .modules) (k .aborts) ∙ (o .size ∙ sym (size-step b e));
         rows = λ q n.
             let row = nth [] q (k .aborts) in
@@ -199,30 +183,31 @@ module _ (D : LS.Delays) (s : Stream) (me : ℕ) (since : Moment) (p : List ℕ)
       }
 
 -- a frame of the book is changed, and neither its moment nor what it carries
-pub own-on-frame : (s : Stream) (me : ℕ) (since : Moment) (p : List ℕ) (b : Bench) (k : Book) (w : Which) (change : Frame → Frame)
-    → ((x : Frame) → change x .since ≡ x .since) → ((x : Frame) → Content s p (codeIn w) x → Content s p (codeIn w) (change x))
-    → Own s me since p b k → Own s me since p b (onFrame w change k)
-own-on-frame s me since p b k thePayload change h c o =
+pub own-on-frame : {n : ℕ} {D : OS.Delays} (K : ClassOnBench n D) (s : Stream) (me : ℕ) (since : Moment) (p : List ℕ) (b : Bench) (k : Book)
+    (w : Which) (change : Frame → Frame)
+    → ((x : Frame) → change x .since ≡ x .since) → ((x : Frame) → Content K s p (codeIn w) x → Content K s p (codeIn w) (change x))
+    → Own K s me since p b k → Own K s me since p b (onFrame w change k)
+own-on-frame K s me since p b k thePayload change h c o =
     record {
       sender = o .sender;
       asked = h (k .payloadFrame) ∙ o .asked;
-      content = all-on-frame (Content s p) thePayload change c k (o .content);
+      content = all-on-frame (Content K s p) thePayload change c k (o .content);
       size = o .size;
       rows = o .rows;
     }
-own-on-frame s me since p b k theConfirmation change h c o =
+own-on-frame K s me since p b k theConfirmation change h c o =
     record {
       sender = o .sender;
       asked = o .asked;
-      content = all-on-frame (Content s p) theConfirmation change c k (o .content);
+      content = all-on-frame (Content K s p) theConfirmation change c k (o .content);
       size = o .size;
       rows = o .rows;
     }
-own-on-frame s me since p b k (theAbort q y) change h c o =
+own-on-frame K s me since p b k (theAbort q y) change h c o =
     record {
       sender = o .sender;
       asked = o .asked;
-      content = all-on-frame (Content s p) (theAbort q y) change c k (o .content);
+      content = all-on-frame (Content K s p) (theAbort q y) change c k (o .content);
       size = length-at (at change y) q (k .aborts) ∙ o .size;
       rows = λ i n.
           nth-at [] (at change y) i q (k .aborts) (inr refl)
@@ -233,17 +218,13 @@ own-on-frame s me since p b k (theAbort q y) change h c o =
     none true = refl
     none false = refl
 
-module _ (D : LS.Delays) (fit : LM.Fit D) (s : Stream) (me : ℕ) (since : Moment) (p : List ℕ) (base : ℕ → List LC.Note) (b : Bench)
-    (v : Valid D s me b)
-    (x : Track D fit s me since p base b) where
-  abbrev L₀ : LH.Line (LM.twoM D)
-  L₀ = lineOf D s me p b (x .k) (x .hold)
+module _ {n : ℕ} {D : OS.Delays} (K : ClassOnBench n D) (s : Stream) (me : ℕ) (since : Moment) (p : List ℕ) (base : ℕ → List OC.Note) (b : Bench)
+    (v : Valid n D s me b) (x : Track K s me since p base b) where
+  abbrev Z₀ : OH.Strand (K .C)
+  Z₀ = strandOf K s me p b (x .k) (x .hold)
 
   abbrev Follows : Bench → Type 0
-  Follows = Track D fit s me since p base
-
-  abbrev works : Works D (LM.twoM D)
-  works = twoMWorks D fit
+  Follows = Track K s me since p base
 
   old-step : (e : Event) (n : ℕ) (w : Which) → T (maySend (step b e) s (nth noBook n (x .ks)) w) → ⊥
   old-step e n w t = x .old n w (send-back s b e (v .nodes) (nth noBook n (x .ks)) w t)
@@ -265,12 +246,12 @@ module _ (D : LS.Delays) (fit : LM.Fit D) (s : Stream) (me : ℕ) (since : Momen
         k = x .k;
         ks = x .ks;
         books = same-books ∙ x .books;
-        own = own-moved D s me since p b v e (x .k) (x .own);
+        own = own-moved K s me since p b v e (x .k) (x .own);
         hold = x .hold;
         sender = sender-same e (untouched-step s b e els me .slot);
         old = old-step e;
         a = x .a;
-        inv = subst (λ L. Inv D (LM.twoM D) works L (x .a) base) (else-line D s me p b e els (x .k) (x .hold)) (x .inv);
+        inv = subst (λ Z. Inv D (K .C) (K .works) Z (x .a) base) (else-strand K s me p b e els (x .k) (x .hold)) (x .inv);
       }
 
   -- ── a sending of the newest message ──
@@ -284,17 +265,17 @@ module _ (D : LS.Delays) (fit : LM.Fit D) (s : Stream) (me : ℕ) (since : Momen
       (λ t. refl)
 
   after-sending : (w : Which) (to : To) (a : Bool)
-      → Inv D (LM.twoM D) works (lineOf D s me p (step b (sends s 0 w to)) (bookAfter D s me p b v (x .k) (x .ks) (x .books) to w)
+      → Inv D (K .C) (K .works) (strandOf K s me p (step b (sends s 0 w to)) (bookAfter K s me p b v (x .k) (x .ks) (x .books) to w)
       (x .hold)) a base
       → Follows (step b (sends s 0 w to))
   after-sending w to a inv =
       record {
-        k = bookAfter D s me p b v (x .k) (x .ks) (x .books) to w;
+        k = bookAfter K s me p b v (x .k) (x .ks) (x .books) to w;
         ks = x .ks;
-        books = books-after D s me p b v (x .k) (x .ks) (x .books) to w;
+        books = books-after K s me p b v (x .k) (x .ks) (x .books) to w;
         own =
-            own-entering D s me since p b v (sends s 0 w to) (onFrame w (sentOnce (now b) (isFull to)) (x .k))
-            (own-on-frame s me since p b (x .k) w (sentOnce (now b) (isFull to)) (λ y. refl) (λ y c. c) (x .own));
+            own-entering K s me since p b v (sends s 0 w to) (onFrame w (sentOnce (now b) (isFull to)) (x .k))
+            (own-on-frame K s me since p b (x .k) w (sentOnce (now b) (isFull to)) (λ y. refl) (λ y c. c) (x .own));
         hold = x .hold;
         sender = sender-same (sends s 0 w to) (send-slot w to);
         old = old-step (sends s 0 w to);
@@ -302,56 +283,66 @@ module _ (D : LS.Delays) (fit : LM.Fit D) (s : Stream) (me : ℕ) (since : Momen
         inv = inv;
       }
 
+  -- what an event makes pending carries what frames of code 2 do, since it has its cause
+  bytes : (e : OC.Event) → OC.Legal (K .C) D (Z₀ .state) e → Paced D (K .C) (Z₀ .state) e → Bytes K s me p b v (x .k) (x .own .size) e
+  bytes e l paced i c =
+      let w = Z₀ .state in
+      K .works .causeBytes (OC.step (K .C) w e) (OC.step (K .C) w e .now) (K .C .payload (w .receiver i .slot))
+      (K .works .causeNew w (x .a) base (x .inv .books) (x .inv .slots) e l paced i c)
+      ∙ ap (K .C .carried) (message-step D (K .C) (K .works) w e)
+
   pub track-send : (w : Which) (to : To) → T (maySend b s (x .k) w) → Follows (step b (sends s 0 w to))
   track-send thePayload to t =
       let c = x .own .content thePayload (was-given b s (x .k) thePayload t) in
-      let r = act-keeps D (LM.twoM D) works L₀ (x .a) base (x .inv) (LH.on (LC.sendData (named to) (isFull to)))
-      (tt, legal-data D s me p b v (x .k) (x .own .sender) (x .hold) to t) tt in
+      let r = act-keeps D (K .C) (K .works) Z₀ (x .a) base (x .inv) (OH.on (OC.sendData (named to) (isFull to)))
+      (tt, legal-data K s me p b v (x .k) (x .own .sender) (x .hold) to t) tt in
       after-sending thePayload to (r .0)
-      (subst (λ L. Inv D (LM.twoM D) works L (r .0) base)
-      (data-line D s me p b v (x .k) (x .ks) (x .books) to (x .own .sender) (x .own .size) (c .0) (c .1) (x .sender .short) (x .hold)) (r .1))
+      (subst (λ Z. Inv D (K .C) (K .works) Z (r .0) base)
+      (data-strand K s me p b v (x .k) (x .ks) (x .books) to (x .own .size) (x .own .sender) (c .0) (c .1) (x .sender .short) (x .hold)) (r .1))
   track-send theConfirmation to t =
       let c = x .own .content theConfirmation (was-given b s (x .k) theConfirmation t) in
-      let r = act-keeps D (LM.twoM D) works L₀ (x .a) base (x .inv) (LH.on (LC.sendConf (named to) (isFull to)))
-      (legal-conf D s me p b v (x .k) (x .own .sender) (x .hold) to t) tt in
+      let legal = legal-conf K s me p b v (x .k) (x .own .sender) (x .hold) to t in
+      let r = act-keeps D (K .C) (K .works) Z₀ (x .a) base (x .inv) (OH.on (OC.sendConf (named to) (isFull to))) legal tt in
       after-sending theConfirmation to (r .0)
-      (subst (λ L. Inv D (LM.twoM D) works L (r .0) base)
-      (conf-line D s me p b v (x .k) (x .ks) (x .books) to (x .own .sender) (x .own .size) (c .0) (c .1) (x .hold)) (r .1))
+      (subst (λ Z. Inv D (K .C) (K .works) Z (r .0) base)
+      (conf-strand K s me p b v (x .k) (x .ks) (x .books) to (x .own .size) (x .own .sender) (c .0) (c .1)
+      (bytes (OC.sendConf (named to) (isFull to)) legal tt) (x .hold)) (r .1))
   track-send (theAbort q y) to t =
       let c = x .own .content (theAbort q y) (was-given b s (x .k) (theAbort q y) t) in
-      let r = act-keeps D (LM.twoM D) works L₀ (x .a) base (x .inv) (LH.on (LC.sendCode2 q y (named to) (isFull to)))
-      (legal-abort D s me p b v (x .k) (x .own .sender) (x .hold) (x .own .rows) q y to t) tt in
+      let r = act-keeps D (K .C) (K .works) Z₀ (x .a) base (x .inv) (OH.on (OC.sendCode2 q y (named to) (isFull to)))
+      (legal-code2 K s me p b v (x .k) (x .own .sender) (x .hold) (x .own .rows) q y to t) tt in
       after-sending (theAbort q y) to (r .0)
-      (subst (λ L. Inv D (LM.twoM D) works L (r .0) base)
-      (abort-line D s me p b v (x .k) (x .ks) (x .books) to (x .own .sender) (x .own .size) q y (c .0) (c .1) (x .hold)) (r .1))
+      (subst (λ Z. Inv D (K .C) (K .works) Z (r .0) base)
+      (code2-strand K s me p b v (x .k) (x .ks) (x .books) to (x .own .size) q y (was-given b s (x .k) (theAbort q y) t) (c .0) (c .1)
+      (x .sender .short) (x .hold)) (r .1))
 
   -- ── a death ──
   pub track-death : (j : ℕ) → Follows (step b (dies j))
   track-death j = go (eqb me j) refl
     where
-      dead : (a : Bool) → Inv D (LM.twoM D) works (lineOf D s me p (step b (dies j)) (x .k) (x .hold)) a base → Follows (step b (dies j))
+      dead : (a : Bool) → Inv D (K .C) (K .works) (strandOf K s me p (step b (dies j)) (x .k) (x .hold)) a base → Follows (step b (dies j))
       dead a inv =
           record {
             k = x .k;
             ks = x .ks;
             books = books-dead s b j ∙ x .books;
-            own = own-moved D s me since p b v (dies j) (x .k) (x .own);
+            own = own-moved K s me since p b v (dies j) (x .k) (x .own);
             hold = x .hold;
-            sender = sender-same (dies j) (ap (slotOf s) (dead-node D s me p b j me));
+            sender = sender-same (dies j) (ap (slotOf s) (dead-node b j me));
             old = old-step (dies j);
             a = a;
             inv = inv;
           }
 
-      r₁ : (a′ : Bool) × Inv D (LM.twoM D) works (LH.act (LM.twoM D) L₀ (LH.on (LC.die j))) a′ base
-      r₁ = act-keeps D (LM.twoM D) works L₀ (x .a) base (x .inv) (LH.on (LC.die j)) tt tt
+      r₁ : (a′ : Bool) × Inv D (K .C) (K .works) (OH.act (K .C) Z₀ (OH.on (OC.die j))) a′ base
+      r₁ = act-keeps D (K .C) (K .works) Z₀ (x .a) base (x .inv) (OH.on (OC.die j)) tt tt
 
       go : (t : Bool) → eqb me j ≡ t → Follows (step b (dies j))
       go false e =
-          dead (r₁ .0) (subst (λ L. Inv D (LM.twoM D) works L (r₁ .0) base) (die-other-line D s me p b (x .k) (x .hold) j e) (r₁ .1))
+          dead (r₁ .0) (subst (λ Z. Inv D (K .C) (K .works) Z (r₁ .0) base) (die-other-strand K s me p b (x .k) (x .hold) j e) (r₁ .1))
       go true e =
-          let r₂ = act-keeps D (LM.twoM D) works (LH.act (LM.twoM D) L₀ (LH.on (LC.die j))) (r₁ .0) base (r₁ .1) LH.senderDies tt tt in
-          dead (r₂ .0) (subst (λ L. Inv D (LM.twoM D) works L (r₂ .0) base) (die-own-line D s me p b (x .k) (x .hold) j e) (r₂ .1))
+          let r₂ = act-keeps D (K .C) (K .works) (OH.act (K .C) Z₀ (OH.on (OC.die j))) (r₁ .0) base (r₁ .1) OH.senderDies tt tt in
+          dead (r₂ .0) (subst (λ Z. Inv D (K .C) (K .works) Z (r₂ .0) base) (die-own-strand K s me p b (x .k) (x .hold) j e) (r₂ .1))
 
   -- ── a tick ──
   abbrev y₀ : Slot
@@ -364,10 +355,6 @@ module _ (D : LS.Delays) (fit : LM.Fit D) (s : Stream) (me : ℕ) (since : Momen
   no-due : (age : ℕ) → due age y₀ ≡ false
   unfolding due
   no-due age = rw (not-receiver y₀ (v .sender .0)) refl
-
-  hold-over : (age : ℕ) → holdOver age y₀ ≡ (y₀ .message .held && ltb (y₀ .settings .rd + y₀ .settings .dd) age)
-  unfolding holdOver
-  hold-over age = rw (is-true (isSender y₀) (v .sender .0)) refl
 
   lapsed-sender : (age : ℕ) (o : Bool) → holdOver age y₀ ≡ o → (let y = lapsed age y₀ in
       (y .message .held ≡ (y₀ .message .held && not o)) × (y .pending .payload ≡ y₀ .pending .payload)
@@ -385,13 +372,8 @@ module _ (D : LS.Delays) (fit : LM.Fit D) (s : Stream) (me : ℕ) (since : Momen
       all-of true = refl
       all-of false = refl
 
-  hold-eq : (h g : Bool) → h ≡ g → {A A′ B B′ : ℕ} → A ≡ A′ → (T g → B ≡ B′) → (h && not (ltb A B)) ≡ (g && not (g && ltb A′ B′))
-  hold-eq h false e {A} {A′} {B} {B′} a c = ap (λ h. h && not (ltb A B)) e
-  hold-eq h true e {A} {A′} {B} {B′} a c = ap (λ h. h && not (ltb A B)) e ∙ (ap (λ z. not (ltb z B)) a ∙ ap (λ z. not (ltb A′ z)) (c tt))
-
   abbrev hold′ : Bool
-  hold′ =
-      x .hold && not (ltb (D .rd + D .dd + D .e) (LS.move (lives D s me p b) (countOf b) me - asFunction (x .k .payloadFrame .since) me))
+  hold′ = x .hold && not (ltb (K .C .hold) (OS.move (lives K s me p b) (countOf b) me - asFunction (x .k .payloadFrame .since) me))
 
   sender-ticked : Sender s me since p (step b ticks) hold′
   sender-ticked = go (isLive me b) refl
@@ -420,7 +402,7 @@ module _ (D : LS.Delays) (fit : LM.Fit D) (s : Stream) (me : ℕ) (since : Momen
           record {
             holds =
                 λ t. hold-is e (x .hold) (x .sender .holds (so e)) ∙ sym
-                (ap (λ (y : Slot). y .message .held) moved ∙ (z .0 ∙ ap (λ o. y₀ .message .held && not o) (hold-over age)));
+                (ap (λ (y : Slot). y .message .held) moved ∙ (z .0 ∙ ap (λ o. y₀ .message .held && not o) (K .hold y₀ (v .sender .0) (v .sender .1) age)));
             stamp = subst (λ (y : Slot). T (y .message .held) → y .message .stamp ≡ asFunction since me) (sym moved)
                 (λ t. z .3 t ∙ x .sender .stamp (and-l (y₀ .message .held) (not (holdOver age y₀)) (subst T (z .0) t)));
             payload =
@@ -430,35 +412,34 @@ module _ (D : LS.Delays) (fit : LM.Fit D) (s : Stream) (me : ℕ) (since : Momen
           }
         where
           hold-is : isLive me b ≡ true → (h : Bool) → h ≡ y₀ .message .held
-              → (h && not (ltb (D .rd + D .dd + D .e)
-              (LS.move (lives D s me p b) (countOf b) me - asFunction (x .k .payloadFrame .since) me)))
-              ≡ (y₀ .message .held && not (y₀ .message .held && ltb (y₀ .settings .rd + y₀ .settings .dd) age))
+              → (h && not (ltb (K .C .hold) (OS.move (lives K s me p b) (countOf b) me - asFunction (x .k .payloadFrame .since) me)))
+              ≡ (y₀ .message .held && not (y₀ .message .held && ltb (K .C .hold) age))
           hold-is live h e =
-              let n = v .sender .1 .numbers in
-              let rd = ap (λ (d : LS.Delays). d .rd) n in
-              let dd = ap (λ (d : LS.Delays). d .dd) n in
-              let drift = ap (λ (d : LS.Delays). d .e) n in
               let now = move-reached (isLive me b) (countOf b me) (so live) in
               let asked = ap (λ t. asFunction t me) (x .own .asked) in
-              let long : D .rd + D .dd + D .e ≡ y₀ .settings .rd + y₀ .settings .dd = omega (arith, rd, dd, drift) in
-              let aged : T (y₀ .message .held) → LS.move (lives D s me p b) (countOf b) me - asFunction (x .k .payloadFrame .since) me ≡ age =
-              λ t. omega (arith, now, asked, x .sender .stamp t) in
-              hold-eq h (y₀ .message .held) e long aged
+              ap (λ h. h && not (ltb (K .C .hold) (OS.move (lives K s me p b) (countOf b) me - asFunction (x .k .payloadFrame .since) me))) e
+              ∙ held-only (y₀ .message .held) (λ t. omega (arith, now, asked, x .sender .stamp t))
+            where
+              held-only : (g : Bool) {a a′ : ℕ} → (T g → a ≡ a′) → (g && not (ltb (K .C .hold) a)) ≡ (g && not (g && ltb (K .C .hold) a′))
+              held-only true same = ap (λ a. not (ltb (K .C .hold) a)) (same tt)
+              held-only false same = refl
 
   pub track-tick : T (may b ticks) → Follows (step b ticks)
   track-tick t =
-      let common : LH.Common (LM.twoM D) L₀ (lives D s me p b) =
+      let common : OH.Common (K .C) Z₀ (lives K s me p b) =
       unfold view in record { receivers = λ i l. and-l (isLive i b) (isReceiver (slotAt s i b)) l; sender = λ l. l } in
-      let legal = legal-tick D s me p b v (x .k) (x .own .sender) (x .hold) (x .ks) (x .books) t in
-      let r = act-keeps D (LM.twoM D) works L₀ (x .a) base (x .inv) (LH.ticks (lives D s me p b)) (inl common, legal) tt in
+      let legal = legal-tick K s me p b v (x .k) (x .own .sender) (x .hold) (x .ks) (x .books) t in
+      let even = stretch D (K .C) (K .works) Z₀ (x .a) base (x .inv) (lives K s me p b) (inl common) .receivers in
+      let r = act-keeps D (K .C) (K .works) Z₀ (x .a) base (x .inv) (OH.ticks (lives K s me p b)) (inl common, legal) tt in
       record {
         k = entering s (b .modules) (step b ticks .modules) (x .k);
         ks = x .ks;
         books = books-ticked s b ∙ ap (onNewest (entering s (b .modules) (step b ticks .modules))) (x .books);
-        own = own-entering D s me since p b v ticks (x .k) (x .own);
+        own = own-entering K s me since p b v ticks (x .k) (x .own);
         hold = hold′;
         sender = sender-ticked;
         old = old-step ticks;
         a = r .0;
-        inv = subst (λ L. Inv D (LM.twoM D) works L (r .0) base) (tick-line D s me p b v (x .k) (x .own .size) (x .hold)) (r .1);
+        inv = subst (λ Z. Inv D (K .C) (K .works) Z (r .0) base)
+            (tick-strand K s me p b v (x .k) (x .own .size) (bytes (OC.tick (lives K s me p b)) legal even) (x .hold)) (r .1);
       }

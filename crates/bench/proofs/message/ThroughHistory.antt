@@ -1,10 +1,10 @@
--- A 2M stream of a bench through any history: before its first message, and from each accepted request on.
+-- A stream of a bench through any history: before its first message, and from each accepted request on.
 use Prim.Native.Nat.{ℕ, zero, suc, _+_, _-_}
 use mathlib.Core.Path.{_≡_, refl, ap, sym, subst, _∙_}
 use mathlib.Core.Logic.{_⊎_, inl, inr}
-use mathlib.Core.Bool.{Bool, true, false, _&&_, cond}
+use mathlib.Core.Bool.{Bool, true, false, _&&_}
 use mathlib.Core.List.{List, [], _∷_, _++_}
-use lib.Dec.{T}
+use lib.Dec.{T, eqb-refl, eqb→eq}
 use Rattle.wire.specs.declared.ids.Stream.{Stream}
 use Rattle.node.specs.declared.slots.Slot.{Slot}
 use Rattle.node.specs.declared.Node.{Node}
@@ -13,30 +13,30 @@ use Rattle.node.specs.Nodes.{slotOf}
 use Rattle.node.specs.Request.{requested}
 use Rattle.node.specs.Slots.{isReceiver, isSender}
 use Rattle.node.specs.Tick.{late, due, holdOver, lapsed}
+use Rattle.node.proofs.Choices.{either-way}
 use Rattle.one_stream.proofs.Chain.{fresh-inv}
-use Rattle.one_stream.proofs.Truth.{cond-elim, and-l, and-r, decide, not-so}
-use Rattle.one_stream.proofs.TwoMEnd.{twoMWorks}
-use Rattle.bench.specs.Bench.{Module, Bench, Book, noBook, moduleAt, isLive, slotAt, booksOf, bookOf, now, frameOf, Which, Moment}
+use Rattle.one_stream.proofs.Truth.{cond-elim, and-l, and-r, both, decide, not-so}
+use Rattle.bench.specs.Bench.{Module, Bench, Book, noBook, moduleAt, isLive, slotAt, booksOf, bookOf, now, frameOf, Which, Moment, sameStream}
 use Rattle.bench.specs.Events.{Event, asks, gives, sends, ticks, dies, step, run, isAccepted, isNext, onNewest, To}
 use Rattle.bench.specs.Lists.{nth}
 use Rattle.bench.specs.Rules.{may, keepsSoFar}
-use Rattle.bench.proofs.laws.SlotAfterCall.{Same, tick-slot, giving, IsPending, next-pending}
-use Rattle.bench.proofs.laws.ModuleAfterEvent.{module-step, refused-asks, decide-stream, next-done, Elsewhere, untouched-step, countOf}
+use Rattle.bench.specs.Demands.{accepts}
+use Rattle.bench.proofs.laws.SlotAfterCall.{Same, same-stream, tick-slot, giving, IsPending, next-pending}
+use Rattle.bench.proofs.laws.ModuleAfterEvent.{module-step, dead-node, refused-asks, decide-stream, next-done, Elsewhere, untouched-step, countOf}
 use Rattle.bench.proofs.laws.BooksAfterEvent.{withAborts, entering, books-ticked, books-dead, books-asked-other, books-given-other}
 use Rattle.bench.proofs.laws.BooksAfterEvent.{books-sent-other}
 use Rattle.bench.proofs.laws.FramesOfBooks.{Labels, no-frame, labelled}
-use Rattle.bench.proofs.demand3.ModuleSeen.{heldIn, view}
-use Rattle.bench.proofs.demand3.StreamSeen.{enter-none}
-use Rattle.bench.proofs.demand3.SeenAfterOwnEvent.{Valid, valid-step, receiversOf}
-use Rattle.bench.proofs.demand3.SeenAfterOtherEvent.{dead-node}
-use Rattle.bench.proofs.demand3.RulesSeen.{maySend, was-given}
-use Rattle.bench.proofs.demand3.MessageKept.{Track, track-else, track-send, track-death, track-tick}
-use Rattle.bench.proofs.demand3.KeptByGivingOut.{track-give}
-use Rattle.bench.proofs.demand3.RequestOpens.{logsOf, open-track, next-track}
-use Rattle.one_stream.specs.Sendings as LS
-use Rattle.one_stream.specs.Classes as LC
-use Rattle.one_stream.proofs.Histories as LH
-use Rattle.one_stream.specs.TwoM as LM
+use Rattle.bench.proofs.message.ClassOnBench.{ClassOnBench}
+use Rattle.bench.proofs.message.ModuleSeen.{view}
+use Rattle.bench.proofs.message.StreamSeen.{enter-none}
+use Rattle.bench.proofs.message.SeenAfterOwnEvent.{Valid, valid-step, receiversOf}
+use Rattle.bench.proofs.message.RulesSeen.{maySend, was-given}
+use Rattle.bench.proofs.message.MessageKept.{Track, track-else, track-send, track-death, track-tick}
+use Rattle.bench.proofs.message.KeptByGivingOut.{track-give}
+use Rattle.bench.proofs.message.RequestOpens.{logsOf, open-track, next-track}
+use Rattle.one_stream.specs.Sendings as OS
+use Rattle.one_stream.specs.Classes as OC
+use Rattle.one_stream.proofs.Histories as OH
 use Rattle.bench.proofs.laws.SlotAfterCall as Laws
 
 -- ── events of other streams ──
@@ -58,26 +58,16 @@ else-books s b (sends z n w to) els = books-sent-other s b z n w to (els .0) ∙
 else-books s b ticks els = absurd els
 else-books s b (dies j) els = absurd els
 
--- the event is an accepted request of the stream
-abbrev pub Opens : Stream → Bench → Event → Type 0
-Opens s b (asks j z p) = (s ≡ z) × T (isAccepted j z p b)
-Opens s b (gives j z c) = ⊥
-Opens s b (sends z n w to) = ⊥
-Opens s b ticks = ⊥
-Opens s b (dies j) = ⊥
+-- an accepted request of the stream
+module _ (s : Stream) (b : Bench) (j : ℕ) (z : Stream) (p : List ℕ) where
+  pub accepts-it : s ≡ z → T (isAccepted j z p b) → T (accepts s b (asks j z p))
+  accepts-it e t = both (sameStream z s) (isAccepted j z p b) (subst (λ (y : Stream). T (sameStream y s)) e (eqb-refl (s .0))) t
 
-pub opens? : (s : Stream) (b : Bench) (e : Event) → Opens s b e ⊎ (Opens s b e → ⊥)
-opens? s b (asks j z p) = go (decide-stream s z) (decide (isAccepted j z p b))
-  where
-    go : (s ≡ z) ⊎ (Same s z → ⊥) → T (isAccepted j z p b) ⊎ (T (isAccepted j z p b) → ⊥)
-        → Opens s b (asks j z p) ⊎ (Opens s b (asks j z p) → ⊥)
-    go (inl e) (inl t) = inl (e, t)
-    go (inl e) (inr n) = inr (λ o. n (o .1))
-    go (inr n) t = inr (λ o. n (ap (λ (y : Stream). y .0) (o .0)))
-opens? s b (gives j z c) = inr (λ o. o)
-opens? s b (sends z n w to) = inr (λ o. o)
-opens? s b ticks = inr (λ o. o)
-opens? s b (dies j) = inr (λ o. o)
+  pub it-accepts : T (accepts s b (asks j z p)) → (s ≡ z) × T (isAccepted j z p b)
+  it-accepts t = (
+    same-stream (sym (eqb→eq (z .0) (s .0) (and-l (sameStream z s) (isAccepted j z p b) t))),
+    and-r (sameStream z s) (isAccepted j z p b) t,
+  )
 
 -- what the rules let a sending be
 pub may-send : (b : Bench) (z : Stream) (n : ℕ) (w : Which) (to : To) → T (may b (sends z n w to)) → T (maySend b z (bookOf z n b) w)
@@ -90,22 +80,21 @@ sends-elsewhere s b l z n w to other t =
     (other, λ e. other (e ∙ labelled b l z n w (was-given b z (bookOf z n b) w (may-send b z n w to t))))
 
 -- ── any event that opens no message of the stream ──
-module _ (D : LS.Delays) (fit : LM.Fit D) (s : Stream) (me : ℕ) (since : Moment) (p : List ℕ) (base : ℕ → List LC.Note) (b : Bench)
-    (v : Valid D s me b)
-    (x : Track D fit s me since p base b) where
+module _ {n : ℕ} {D : OS.Delays} (K : ClassOnBench n D) (s : Stream) (me : ℕ) (since : Moment) (p : List ℕ) (base : ℕ → List OC.Note) (b : Bench)
+    (v : Valid n D s me b) (x : Track K s me since p base b) where
   abbrev Follows : Bench → Type 0
-  Follows = Track D fit s me since p base
+  Follows = Track K s me since p base
 
   send-step : (n : ℕ) (w : Which) (to : To) → T (maySend b s (nth noBook n (x .k ∷ x .ks)) w) → Follows (step b (sends s n w to))
-  send-step zero w to h = track-send D fit s me since p base b v x w to h
+  send-step zero w to h = track-send K s me since p base b v x w to h
   send-step (suc n) w to h = absurd (x .old n w h)
 
-  pub track-step : (e : Event) → (Opens s b e → ⊥) → T (may b e) → Follows (step b e)
+  pub track-step : (e : Event) → (T (accepts s b e) → ⊥) → T (may b e) → Follows (step b e)
   track-step (asks j z q) shut m = go (decide-stream s z)
     where
       go : (s ≡ z) ⊎ (Same s z → ⊥) → Follows (step b (asks j z q))
-      go (inl e) = subst Follows (sym (refused-asks b j z q (λ t. shut (e, t)))) x
-      go (inr other) = track-else D fit s me since p base b v x (asks j z q) other (else-books s b (asks j z q) other)
+      go (inl e) = subst Follows (sym (refused-asks b j z q (λ t. shut (accepts-it s b j z q e t)))) x
+      go (inr other) = track-else K s me since p base b v x (asks j z q) other (else-books s b (asks j z q) other)
   track-step (gives j z c) shut m = go (decide-stream s z)
     where
       next-one : T (isNext j z c b)
@@ -114,8 +103,8 @@ module _ (D : LS.Delays) (fit : LM.Fit D) (s : Stream) (me : ℕ) (since : Momen
       go : (s ≡ z) ⊎ (Same s z → ⊥) → Follows (step b (gives j z c))
       go (inl e) =
           subst (λ y. Follows (step b (gives j y c))) e
-          (track-give D fit s me since p base b v x j c (subst (λ y. T (isNext j y c b)) (sym e) next-one))
-      go (inr other) = track-else D fit s me since p base b v x (gives j z c) other (else-books s b (gives j z c) other)
+          (track-give K s me since p base b v x j c (subst (λ y. T (isNext j y c b)) (sym e) next-one))
+      go (inr other) = track-else K s me since p base b v x (gives j z c) other (else-books s b (gives j z c) other)
   track-step (sends z n w to) shut m = go (decide-stream s z)
     where
       go : (s ≡ z) ⊎ (Same s z → ⊥) → Follows (step b (sends z n w to))
@@ -125,9 +114,9 @@ module _ (D : LS.Delays) (fit : LM.Fit D) (s : Stream) (me : ℕ) (since : Momen
           (subst (λ y. T (maySend b y (bookOf y n b) w)) (sym e) (may-send b z n w to m))))
       go (inr other) =
           let els = sends-elsewhere s b (v .labels) z n w to other m in
-          track-else D fit s me since p base b v x (sends z n w to) els (else-books s b (sends z n w to) els)
-  track-step ticks shut m = track-tick D fit s me since p base b v x m
-  track-step (dies j) shut m = track-death D fit s me since p base b v x j
+          track-else K s me since p base b v x (sends z n w to) els (else-books s b (sends z n w to) els)
+  track-step ticks shut m = track-tick K s me since p base b v x m
+  track-step (dies j) shut m = track-death K s me since p base b v x j
 
 -- ── before the first message ──
 pub record Quiet (x : Slot) : Type 0 where
@@ -167,7 +156,7 @@ module _ (age : ℕ) (x : Slot) (free : x .message .held ≡ false) where
   unfolding lapsed
   quiet-lapsed = rw (not-late, not-due, not-over) refl
 
-module _ (D : LS.Delays) (s : Stream) (me : ℕ) (b : Bench) (v : Valid D s me b) (q : NoBook s b) where
+module _ {n : ℕ} {D : OS.Delays} (K : ClassOnBench n D) (s : Stream) (me : ℕ) (b : Bench) (v : Valid n D s me b) (q : NoBook s b) where
   nobook-else : (e : Event) → Elsewhere s b e → NoBook s (step b e)
   nobook-else e els =
       record { books = else-books s b e els ∙ q .books; quiet = λ i. subst Quiet (sym (untouched-step s b e els i .slot)) (q .quiet i) }
@@ -183,11 +172,11 @@ module _ (D : LS.Delays) (s : Stream) (me : ℕ) (b : Bench) (v : Valid D s me b
       ∙ quiet-lapsed (countOf b i + 1 - slotAt s i b .message .stamp) (slotAt s i b) (q .quiet i .held))) (q .quiet i))
       (λ t. q .quiet i))
 
-  pub nobook-step : (e : Event) → (Opens s b e → ⊥) → T (may b e) → NoBook s (step b e)
+  pub nobook-step : (e : Event) → (T (accepts s b e) → ⊥) → T (may b e) → NoBook s (step b e)
   nobook-step (asks j z p) shut m = go (decide-stream s z)
     where
       go : (s ≡ z) ⊎ (Same s z → ⊥) → NoBook s (step b (asks j z p))
-      go (inl e) = subst (NoBook s) (sym (refused-asks b j z p (λ t. shut (e, t)))) q
+      go (inl e) = subst (NoBook s) (sym (refused-asks b j z p (λ t. shut (accepts-it s b j z p e t)))) q
       go (inr other) = nobook-else (asks j z p) other
   nobook-step (gives j z c) shut m = go (decide-stream s z)
     where
@@ -211,11 +200,11 @@ module _ (D : LS.Delays) (s : Stream) (me : ℕ) (b : Bench) (v : Valid D s me b
   nobook-step (dies j) shut m =
       record {
         books = books-dead s b j ∙ q .books;
-        quiet = λ i. subst (λ (n : Node). Quiet (slotOf s n)) (sym (dead-node D s me [] b j i)) (q .quiet i);
+        quiet = λ i. subst (λ (n : Node). Quiet (slotOf s n)) (sym (dead-node b j i)) (q .quiet i);
       }
 
   -- the first message
-  start : LH.Line (LM.twoM D)
+  start : OH.Strand (K .C)
   start =
       record {
         state =
@@ -223,9 +212,9 @@ module _ (D : LS.Delays) (s : Stream) (me : ℕ) (b : Bench) (v : Valid D s me b
               now = countOf b;
               requested = countOf b;
               message = [];
-              dataSent = LS.never;
-              confSent = LS.never;
-              receiver = receiversOf D s me [] b [];
+              dataSent = OS.never;
+              confSent = OS.never;
+              receiver = receiversOf K s me [] b [];
             };
         sender = me;
         up = isLive me b;
@@ -233,46 +222,47 @@ module _ (D : LS.Delays) (s : Stream) (me : ℕ) (b : Bench) (v : Valid D s me b
         hold = false;
       }
 
-  idle-start : (i : ℕ) → LH.IdleReceiver (LM.twoM D) (view D s (moduleAt i b) [])
-  unfolding view heldIn
+  idle-start : (i : ℕ) → OH.IdleReceiver (K .C) (receiversOf K s me [] b [] i)
+  unfolding view
   idle-start i =
-      record { slot = rw (q .quiet i .held) (same-empty (isReceiver (slotAt s i b))); frames = refl; pending = q .quiet i .noAbort }
-    where
-      same-empty : (r : Bool) → cond r LM.empty LM.empty ≡ LM.empty
-      same-empty true = refl
-      same-empty false = refl
+      record {
+        slot = either-way (λ h. h) (isReceiver (slotAt s i b)) (K .idle (slotAt s i b) (q .quiet i .held)) refl;
+        frames = refl;
+        pending = q .quiet i .noAbort;
+      }
 
-  start-fresh : LH.Fresh (LM.twoM D) start
+  start-fresh : OH.Fresh (K .C) start
   unfolding start
   start-fresh = record { notBegun = refl; noData = refl; noConf = refl; same = λ i. refl; idle = idle-start }
 
-  pub first-track : (fit : LM.Fit D) (j : ℕ) (p : List ℕ) → T (isAccepted j s p b)
-      → Track D fit s me (now b) p (logsOf s b) (step b (asks j s p))
+  pub first-track : (j : ℕ) (p : List ℕ) → T (isAccepted j s p b)
+      → Track K s me (now b) p (logsOf s b) (step b (asks j s p))
   unfolding start
-  first-track fit j p t =
-      open-track D fit s me p b v j t start [] refl refl refl refl tt false (λ i. start .state .receiver i .log)
-      (fresh-inv D (LM.twoM D) (twoMWorks D fit) start start-fresh) no-send
+  first-track j p t =
+      open-track K s me p b v j t start [] [] refl refl refl refl tt false (λ i. start .state .receiver i .log)
+      (fresh-inv D (K .C) (K .works) start start-fresh) no-send
 
 -- ── whole histories ──
-pub data Phase (D : LS.Delays) (fit : LM.Fit D) (s : Stream) (me : ℕ) (b : Bench) : Type 0 where
-  silent : NoBook s b → Phase D fit s me b
-  asked : (since : Moment) (p : List ℕ) (base : ℕ → List LC.Note) → Track D fit s me since p base b → Phase D fit s me b
+pub data Phase {n : ℕ} {D : OS.Delays} (K : ClassOnBench n D) (s : Stream) (me : ℕ) (b : Bench) : Type 0 where
+  silent : NoBook s b → Phase K s me b
+  asked : (since : Moment) (p : List ℕ) (base : ℕ → List OC.Note) → Track K s me since p base b → Phase K s me b
 
-module _ (D : LS.Delays) (fit : LM.Fit D) (s : Stream) (me : ℕ) where
-  pub opened : (b : Bench) → Valid D s me b → Phase D fit s me b → (j : ℕ) (p : List ℕ) → T (isAccepted j s p b)
-      → Track D fit s me (now b) p (logsOf s b) (step b (asks j s p))
-  opened b v (silent q) j p t = first-track D s me b v q fit j p t
-  opened b v (asked since p₀ base x) j p t = next-track D fit s me since p₀ base b v x j p t
+module _ {n : ℕ} {D : OS.Delays} (K : ClassOnBench n D) (s : Stream) (me : ℕ) where
+  pub opened : (b : Bench) → Valid n D s me b → Phase K s me b → (j : ℕ) (p : List ℕ) → T (isAccepted j s p b)
+      → Track K s me (now b) p (logsOf s b) (step b (asks j s p))
+  opened b v (silent q) j p t = first-track K s me b v q j p t
+  opened b v (asked since p₀ base x) j p t = next-track K s me since p₀ base b v x j p t
 
-  phase-step : (b : Bench) → Valid D s me b → Phase D fit s me b → (e : Event) → T (may b e) → Phase D fit s me (step b e)
-  phase-step b v x e m = go e m x (opens? s b e)
+  phase-step : (b : Bench) → Valid n D s me b → Phase K s me b → (e : Event) → T (may b e) → Phase K s me (step b e)
+  phase-step b v x e m = go e m x (decide (accepts s b e))
     where
-      go : (e : Event) → T (may b e) → Phase D fit s me b → Opens s b e ⊎ (Opens s b e → ⊥) → Phase D fit s me (step b e)
-      go e m (silent q) (inr n) = silent (nobook-step D s me b v q e n m)
-      go e m (asked since p base x) (inr n) = asked since p base (track-step D fit s me since p base b v x e n m)
-      go (asks j z p) m x (inl (e, t)) =
+      go : (e : Event) → T (may b e) → Phase K s me b → T (accepts s b e) ⊎ (T (accepts s b e) → ⊥) → Phase K s me (step b e)
+      go e m (silent q) (inr n) = silent (nobook-step K s me b v q e n m)
+      go e m (asked since p base x) (inr n) = asked since p base (track-step K s me since p base b v x e n m)
+      go (asks j z p) m x (inl o) =
+          let (e, t) = it-accepts s b j z p o in
           asked (now b) p (logsOf s b)
-          (subst (λ y. Track D fit s me (now b) p (logsOf s b) (step b (asks j y p))) e
+          (subst (λ y. Track K s me (now b) p (logsOf s b) (step b (asks j y p))) e
           (opened b v x j p (subst (λ y. T (isAccepted j y p b)) (sym e) t)))
       go (gives j z c) m x (inl o) = absurd o
       go (sends z n w to) m x (inl o) = absurd o
@@ -280,9 +270,9 @@ module _ (D : LS.Delays) (fit : LM.Fit D) (s : Stream) (me : ℕ) where
       go (dies j) m x (inl o) = absurd o
 
   -- any history that keeps the rules, with more to come
-  pub any-run : (b : Bench) → Valid D s me b → Phase D fit s me b → (h r : List Event) → T (keepsSoFar b (h ++ r))
-      → Valid D s me (run b h) × Phase D fit s me (run b h) × T (keepsSoFar (run b h) r)
+  pub any-run : (b : Bench) → Valid n D s me b → Phase K s me b → (h r : List Event) → T (keepsSoFar b (h ++ r))
+      → Valid n D s me (run b h) × Phase K s me (run b h) × T (keepsSoFar (run b h) r)
   any-run b v x [] r k = (v, x, k)
   any-run b v x (e ∷ es) r k =
-      any-run (step b e) (valid-step D s me b e v) (phase-step b v x e (and-l (may b e) (keepsSoFar (step b e) (es ++ r)) k)) es r
+      any-run (step b e) (valid-step e v) (phase-step b v x e (and-l (may b e) (keepsSoFar (step b e) (es ++ r)) k)) es r
       (and-r (may b e) (keepsSoFar (step b e) (es ++ r)) k)
