@@ -5,17 +5,24 @@
 #                   read, a walk through code that has another step), so that nothing is said of any fact
 function inside(path) { return index(path, dir) == 1 ? substr(path, length(dir) + 1) : path }
 
+# In a function's proof, its theorem puts the parts together, and `walk` follows the code: an error there says that they
+# do not fit the code, unless it is the answer to a part that is not found.
+function is_unfit(file, fact, says) {
+    if (fact == "" || says ~ /that can be named from here|has no field `|` is not in scope[:;]|follows the signature of|has room for only/) return 1
+    return file ~ /\/Proof\.antt$/ && fact ~ /(-spec|^walk)$/ && says !~ /^`(search|omega)`: /
+}
+
 /^[^ ]+:[0-9]+:[0-9]+: error/ {
     match($0, /:[0-9]+:[0-9]+: error/)
     file = inside(substr($0, 1, RSTART - 1))
     says = substr($0, RSTART + RLENGTH)
     if (says ~ /was not admitted/) next
+    fact = ""
     if (match(says, /^: `[^`]+`: /)) {
         fact = substr(says, 4, RLENGTH - 6)
         says = substr(says, RLENGTH + 1)
-    } else fact = ""
-    if (fact == "" || says ~ /that can be named from here|has no field `|` is not in scope[:;]|follows the signature of/ ||
-        (file ~ /\/Proof\.antt$/ && fact ~ /(-spec|^walk)$/)) {
+    }
+    if (is_unfit(file, fact, says)) {
         print "unfit " file ": " substr($0, index($0, ": error") + 2, 160)
         next
     }
