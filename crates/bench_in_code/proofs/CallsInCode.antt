@@ -1,12 +1,11 @@
 -- The ways through the calls of the bench in code: what each return leaves is what the definition says.
-use mathlib.Core.Path.{_≡_, refl, sym, ap, _∙_}
+use mathlib.Core.Path.{_≡_, sym, ap, _∙_}
 use mathlib.Core.Bool.{Bool, true, false, not, _&&_}
 use mathlib.Core.List.{List}
-use Prim.Native.Nat.{ℕ, suc, _≤_, _<_}
+use Prim.Native.Nat.{ℕ, _≤_, _<_}
 use native.Mathlib.Omega.{arith}
 use lib.ListN.{length, getD, set, replicate, take, drop, take-append-drop}
 use lib.Seq.{take-append-seam}
-use lib.Dec.{ltb, leb}
 use borrow.Author.Tests.{le-leb, lt-leb}
 use Rattle.wire.specs.declared.reply.Reply.the-variants.{Done}
 use Rattle.wire.specs.Frames.{maxPayload}
@@ -14,23 +13,19 @@ use Rattle.wire.specs.Delivered.{over}
 use Rattle.node.specs.declared.Answered.{Answered}
 use Rattle.node.specs.declared.Delivered.{Delivered}
 use Rattle.node.specs.declared.Given.{Given}
-use Rattle.node.specs.Nodes.{Outcome, answered, delivered, given}
+use Rattle.node.specs.Nodes.{answered, delivered, given}
 use Rattle.node.specs.Clock.{rolled}
 use Rattle.node.specs.Calls.{Call, outcome, tick, hear}
 use Rattle.bench_in_code.specs.declared.stations.Station.{Station}
-use Rattle.bench_in_code.specs.declared.stations.Turn.{Turn}
 use Rattle.bench_in_code.specs.declared.outbox.Frame.{Frame}
 use Rattle.bench_in_code.specs.declared.outbox.Frames.{Frames}
 use Rattle.bench_in_code.specs.declared.Bench.{Bench}
-use Rattle.bench_in_code.specs.declared.Asked.{Asked}
 use Rattle.bench_in_code.specs.declared.Giving.the-variants.{Dead, Nothing, Full, Out}
-use Rattle.bench_in_code.specs.declared.Gave.{Gave}
-use Rattle.bench.specs.Lists.{nth}
 use Rattle.bench.specs.SetUp.{isDone}
 use Rattle.bench.specs.Bench as history
-use Rattle.bench.specs.Events.{lent, withNode, dead}
-use Rattle.bench_in_code.specs.InCode.{nobody, shown, kept, saying, silence, answeredTurn, tickTurn, hearTurn, payloadOf, moduleIn, isLiveIn, callIn, onModule}
-use Rattle.bench_in_code.specs.InCode.{asked, next, givenBy, givingOf, withFrame, notGiven, capacity}
+use Rattle.bench.specs.Events.{lent, withNode}
+use Rattle.bench_in_code.specs.InCode.{nobody, shown, kept, silence, answeredTurn, tickTurn, hearTurn, payloadOf, moduleIn, isLiveIn, callIn, onModule}
+use Rattle.bench_in_code.specs.InCode.{asked, next, givingOf, withFrame, notGiven, capacity}
 use Rattle.bench.proofs.laws.ListPlaces.{nth-inside, nth-past, at-inside, at-past}
 
 -- ── one module of the bench ──

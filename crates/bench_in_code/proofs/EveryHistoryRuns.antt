@@ -1,9 +1,9 @@
 -- Every history that keeps the rules, with no more give-outs than the outbox keeps, runs in code with sendings by number; and every such run
 -- answers as the rules do and ends in step with them.
-use Prim.Native.Nat.{ℕ, suc, _+_, _≤_, _<_}
+use Prim.Native.Nat.{ℕ, _+_, _≤_, _<_}
 use native.Mathlib.Omega.{arith}
 use mathlib.Core.Path.{_≡_, refl, ap, sym, subst, _∙_}
-use mathlib.Core.Bool.{Bool, true, not, _&&_}
+use mathlib.Core.Bool.{true, not, _&&_}
 use mathlib.Core.List.{List, [], _∷_}
 use lib.ListN.{length, length-replicate}
 use lib.Dec.{T}
@@ -13,12 +13,13 @@ use Rattle.bench_in_code.specs.declared.outbox.Frame as kept-frame
 use Rattle.bench_in_code.specs.declared.outbox.Frames.{Frames}
 use Rattle.bench_in_code.specs.declared.Bench as coded
 use Rattle.bench.specs.SetUp.{Plan, allEntries, proper, start}
-use Rattle.bench.specs.Bench.{Bench, Frame, Which, isLive, booksOf, bookOf, frameOf, ownerOf}
-use Rattle.bench.specs.Events.{Event, asks, gives, sends, ticks, dies, To, step, run, isNext, gaveOut, next}
+use Rattle.bench.specs.Bench.{Bench, Frame, Which, isLive, bookOf, frameOf, ownerOf}
+use Rattle.bench.specs.Events.{Event, asks, gives, sends, ticks, dies, To, step, run, isNext}
 use Rattle.bench.specs.Rules.{one, wasFull, rule1, rule3, may, keepsSoFar}
 use Rattle.bench_in_code.specs.InCode.{capacity, noFrame, frameIn, withFrame, givingOf}
-use Rattle.bench_in_code.specs.InStep.{InStep, KeptAs, placesOf}
-use Rattle.bench_in_code.specs.Runs.{Coded, Command, request, give, send, tick, death, withBench, after, answer, ruled, Does, asking, giving, sending, ticking, dying}
+use Rattle.bench_in_code.specs.InStep.{InStep, placesOf}
+use Rattle.bench_in_code.specs.Runs.{Coded, Command, request, give, send, tick, death, withBench, after, answer, ruled}
+use Rattle.bench_in_code.specs.Runs.{Does, asking, giving, sending, ticking, dying}
 use Rattle.bench_in_code.specs.Runs.{Runs, no-more, then, Agrees, givesOut, giveOuts, SetUps, ready, Allowed, EveryHistoryRuns, EveryRunAgrees}
 use Rattle.bench.proofs.laws.FramesOfBooks.{AllBooks, EveryBook}
 use Rattle.bench.proofs.demand3.PlanGives.{no-books}

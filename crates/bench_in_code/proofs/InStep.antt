@@ -12,7 +12,6 @@ use lib.Seq.{take-append-seam}
 use lib.Dec.{T, eqb, ltb, eqb→eq}
 use borrow.Author.Tests.{lt-leb}
 use Rattle.wire.specs.declared.ids.Stream.{Stream}
-use Rattle.wire.specs.declared.reply.Reply.{Reply}
 use Rattle.wire.specs.declared.reply.Reply.the-variants.{Done, BadLength, NotSender, Busy}
 use Rattle.wire.specs.Frames.{maxPayload}
 use Rattle.wire.specs.Identifiers.{streamOf, codeOf}
@@ -47,7 +46,7 @@ use Rattle.bench_in_code.specs.InCode as code
 use Rattle.bench_in_code.specs.InCode.{nobody, shown, kept, saying, silence, tickTurn, frameShown, moduleIn, isLiveIn, callIn, placeCount, places}
 use Rattle.bench_in_code.specs.InCode.{onModule, afterCall, turnsOf, afterTurns, saidIn, tickOf, sendingOf, givingOf, givenBy, withFrame, capacity}
 use Rattle.bench_in_code.specs.InStep.{Mirrors, InStep, SameFrame, Names, placesOf}
-use Rattle.bench_in_code.specs.Runs.{recordsOf, says, ruled, Answer, replied, gave, said, nothing, gaveAs}
+use Rattle.bench_in_code.specs.Runs.{recordsOf, says, ruled, replied, said, nothing, gaveAs}
 use Rattle.bench.proofs.laws.SlotAfterCall.{asking, giving}
 use Rattle.bench.proofs.laws.ListPlaces.{nth-inside, nth-there, nth-each, length-each, map-each}
 use Rattle.bench.proofs.laws.ModuleAfterEvent.{nth-at, length-at, module-step, next-done}
@@ -142,7 +141,8 @@ next-live b i z c is-next =
 
 -- ── the bench ──
 -- what the turn at a place leaves
-turn-at : (turn : ℕ → Station → Turn) (i : ℕ) (k : coded.Bench) → nth (turn i nobody .after) i (afterTurns (turnsOf turn k) .modules) ≡ turn i (moduleIn i k) .after
+turn-at : (turn : ℕ → Station → Turn) (i : ℕ) (k : coded.Bench)
+    → nth (turn i nobody .after) i (afterTurns (turnsOf turn k) .modules) ≡ turn i (moduleIn i k) .after
 turn-at turn i k =
     ap (nth (turn i nobody .after) i) (map-each (λ (t : Turn). t .after) turn 0 (k .modules))
     ∙ nth-each nobody (λ j x. turn j x .after) i 0 i (k .modules) (zero-add i)

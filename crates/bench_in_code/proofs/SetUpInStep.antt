@@ -4,11 +4,11 @@ use Prim.Native.Nat.{ℕ, zero, suc, _≤_, _<_}
 use native.Mathlib.Nat.{zero-add, le-of-suc-le-suc, not-suc-le-zero}
 use native.Mathlib.Omega.{arith}
 use mathlib.Core.Path.{_≡_, refl, ap, sym, subst, _∙_}
-use mathlib.Core.Logic.{_⊎_, inl, inr}
-use mathlib.Core.Bool.{Bool, true, false, cond, _&&_}
-use mathlib.Core.List.{List, [], _∷_, _++_, map, append-nil, append-assoc}
+use mathlib.Core.Logic.{inl}
+use mathlib.Core.Bool.{Bool, true, false, _&&_}
+use mathlib.Core.List.{[], _∷_, _++_, map, append-nil, append-assoc}
 use lib.ListN.{length, length-map, length-replicate, replicate}
-use lib.Dec.{T, eqb, leb, ltb, eqb→eq, ltb→lt, lt→ltb, leb→le, leb·zero, leb·suc-zero, leb·suc-suc}
+use lib.Dec.{T, leb, ltb, ltb→lt, lt→ltb, leb→le, leb·zero, leb·suc-zero, leb·suc-suc}
 use borrow.Author.Tests.{lt-ltb, ltb-true}
 use Rattle.node.specs.declared.Node.{Node}
 use Rattle.node.specs.Nodes.{fresh}
@@ -17,7 +17,7 @@ use Rattle.node.specs.Calls.{Call, setUp, outcome, after, afterFrom, Answer, an
 use Rattle.node.proofs.Kept.{kept-fresh}
 use Rattle.one_stream.proofs.Truth.{and-l, and-r, both}
 use Rattle.bench_in_code.specs.declared.Bench as coded
-use Rattle.bench.specs.Lists.{nth, at, every}
+use Rattle.bench.specs.Lists.{nth, every}
 use Rattle.bench.specs.SetUp.{Entry, Part, Plan, setUps, isDone, accepted, allAgree, allEntries, isSent, proper, moduleFor, start}
 use Rattle.bench.specs.Bench.{Module, noModule, moduleAt, isLive}
 use Rattle.bench.specs.Events.{call, withNode}

@@ -4,11 +4,10 @@ use Prim.Native.Nat.{ℕ, _≤_, _<_}
 use native.Mathlib.Omega.{arith}
 use native.Mathlib.Decide.{decLe}
 use mathlib.Core.Path.{_≡_, refl, sym, subst, _∙_}
-use mathlib.Core.Logic.{_⊎_, inl, inr}
 use mathlib.Core.Bool.{Bool, true, false, not, _&&_, _||_, cond}
 use mathlib.Core.List.{List, []}
 use lib.ListN.{length}
-use lib.Dec.{T, leb, ltb, eqb, eqb-refl, eqb→eq, T-not}
+use lib.Dec.{T, leb, ltb, eqb, eqb-refl, T-not}
 use Rattle.wire.specs.declared.ids.Stream.{Stream}
 use Rattle.wire.specs.Frames.{maxPayload}
 use Rattle.wire.specs.Identifiers.{codeOf}
@@ -21,7 +20,7 @@ use Rattle.node.specs.Request.{busy}
 use Rattle.node.specs.Reachable.{Kept}
 use Rattle.node.proofs.Kept.{kept}
 use Rattle.node.proofs.Streams.{Kind, kindOf}
-use Rattle.one_stream.proofs.Truth.{and-l, and-r, both, decide, is-true, so}
+use Rattle.one_stream.proofs.Truth.{and-l, and-r, both, is-true, so}
 use Rattle.bench.specs.Lists.{nth, every}
 use Rattle.bench.specs.SetUp.{Entry, Part, Plan, setUps, isDone, sameNumbers, agree, allAgree, allEntries, accepted, isSent, proper, start}
 use Rattle.bench.specs.Bench as Bench

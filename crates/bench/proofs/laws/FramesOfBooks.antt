@@ -1,7 +1,7 @@
 -- What every event leaves of a predicate of books, and of a predicate of their frames; and that each frame of a stream's books carries
 -- that stream.
 use Prim.Native.Nat.{ℕ, zero, suc}
-use mathlib.Core.Path.{_≡_, refl, ap, sym, subst, _∙_}
+use mathlib.Core.Path.{_≡_, refl, ap, sym, subst}
 use mathlib.Core.Logic.{_⊎_, inl, inr}
 use mathlib.Core.Bool.{Bool, true, false, _||_, cond}
 use mathlib.Core.List.{List, [], _∷_, map}
@@ -12,7 +12,7 @@ use Rattle.one_stream.proofs.Truth.{cond-elim, decide}
 use Rattle.bench.specs.Bench.{Module, Bench, Frame, Which, thePayload, theConfirmation, theAbort, Book, Ledger, booksIn, booksOf}
 use Rattle.bench.specs.Bench.{bookOf, noBook, pendingSince, counts, now, frameOf, ownerOf, sameStream}
 use Rattle.bench.specs.Events.{Event, asks, gives, sends, ticks, dies, step, isAccepted, isNext, newBook, onFrame, whichOf}
-use Rattle.bench.specs.Events.{gaveOut, sentOnce, enter, isFull, next, To, becamePending}
+use Rattle.bench.specs.Events.{gaveOut, sentOnce, enter, isFull, next, becamePending}
 use Rattle.bench.specs.Lists.{nth, at}
 use Rattle.bench.proofs.laws.SlotAfterCall.{Same}
 use Rattle.bench.proofs.laws.ModuleAfterEvent.{refused-asks, refused-gives, decide-stream, next-done}
@@ -106,7 +106,8 @@ module _ (Q : Stream → Book → Type 0) where
         let e = sends z n w to in
         let change = onFrame w (sentOnce (now b) (isFull to)) in
         by-stream e z
-        (λ l. subst (AllBooks (Q z)) (sym (books-sent z b l n w to)) (entered e z (at change n (booksOf z b)) (all-at (Q z) change stays n (booksOf z b) (a z))))
+        (λ l. subst (AllBooks (Q z)) (sym (books-sent z b l n w to))
+        (entered e z (at change n (booksOf z b)) (all-at (Q z) change stays n (booksOf z b) (a z))))
         (λ y other. subst (AllBooks (Q y)) (sym (books-sent-other y b z n w to other)) (entered e y (booksOf y b) (a y)))
     books-step ticks stays = λ z. subst (AllBooks (Q z)) (sym (books-ticked z b)) (entered ticks z (booksOf z b) (a z))
     books-step (dies j) stays = λ z. subst (AllBooks (Q z)) (sym (books-dead z b j)) (a z)
