@@ -5,4 +5,4 @@ pub mod InStep
 pub mod SetUpInStep
 pub mod OutboxKeepsFrames
 pub mod EveryHistoryRuns
-pub mod ExamplesRun
+pub mod BusyDayRuns
