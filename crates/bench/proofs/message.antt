@@ -16,3 +16,4 @@ pub mod Judgement
 pub mod PlanGives
 pub mod AcceptedRequest
 pub mod OmissionsStay
+pub mod MessageOfHistory

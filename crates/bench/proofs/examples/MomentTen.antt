@@ -4,7 +4,7 @@ use mathlib.Core.List.{List, [], _∷_, _++_}
 use Rattle.bench.specs.Bench.{thePayload, theConfirmation, theAbort}
 use Rattle.bench.specs.SetUp.{start}
 use Rattle.bench.specs.Events.{Event, asks, gives, sends, dies, all, only}
-use Rattle.bench.specs.Demands.{Judged}
+use Rattle.bench.specs.Demands.{MessageIn, OneTickBeyond}
 use Rattle.bench.proofs.examples.ExampleHistories.{computing, five, three, message, wait, got, Shows}
 
 -- its data is full at 10; the confirmation is given out at 12
@@ -28,21 +28,24 @@ pub nobody-delivers : Shows three short-confirmation ([] ∷ [] ∷ [] ∷ [])
 unfolding computing
 nobody-delivers = record { set-up = refl; keeps-rules = refl; delivers = refl }
 
-pub short-judged : Judged (start three) short-confirmation
+-- its message, one tick beyond Rd + dd after the request
+unfoldable pub short-message : MessageIn (start three) short-confirmation
 unfolding computing
-short-judged =
+short-message =
     record {
       before = wait 10;
       sender = 0;
       stream = five;
       payload = message;
-      since = short-since;
+      since = short-since ++ wait 1;
       rest = [];
       split = refl;
       accepted = tt;
-      twoMessage = tt;
-      long = refl;
     }
+
+pub short-judged : OneTickBeyond (start three) short-confirmation short-message
+unfolding computing short-message
+short-judged = record { earlier = short-since; last = refl; long = refl }
 
 -- ── the confirmation is full at 12 ──
 abbrev full-since : List Event
@@ -55,18 +58,20 @@ pub both-deliver : Shows three full-confirmation ([] ∷ (got 17 five message �
 unfolding computing
 both-deliver = record { set-up = refl; keeps-rules = refl; delivers = refl }
 
-unfoldable pub full-judged : Judged (start three) full-confirmation
+unfoldable pub full-message : MessageIn (start three) full-confirmation
 unfolding computing
-full-judged =
+full-message =
     record {
       before = wait 10;
       sender = 0;
       stream = five;
       payload = message;
-      since = full-since;
+      since = full-since ++ wait 1;
       rest = [];
       split = refl;
       accepted = tt;
-      twoMessage = tt;
-      long = refl;
     }
+
+pub full-judged : OneTickBeyond (start three) full-confirmation full-message
+unfolding computing full-message
+full-judged = record { earlier = full-since; last = refl; long = refl }

@@ -33,9 +33,9 @@ use Rattle.bench.specs.Events.{Event, asks, gives, sends, ticks, dies, s
 use Rattle.bench.specs.Events.{gave, withNode, atOnce, lent, onto, deliveries, asked, next}
 use Rattle.bench.specs.Lists.{nth, at}
 use Rattle.bench.specs.SetUp.{isDone}
-use Rattle.bench.proofs.laws.SlotAfterCall.{Same, same-stream, slot-kept, takes, hearing, hear-own, hear-other, ticking, tick-slot, asking}
-use Rattle.bench.proofs.laws.SlotAfterCall.{accepts, ask-own, ask-other, hear-counter, tick-counter, ask-counter, giving, next-own, next-other, next-counter}
-use Rattle.bench.proofs.laws.SlotAfterCall.{onStream}
+use Rattle.bench.proofs.laws.SlotAfterCall.{Same, same-stream, slot-kept, takes, hearing, hear-own, hear-other, ticking}
+use Rattle.bench.proofs.laws.SlotAfterCall.{tick-slot, asking, accepts, ask-own, ask-other, hear-counter, tick-counter, ask-counter}
+use Rattle.bench.proofs.laws.SlotAfterCall.{giving, next-own, next-other, next-counter, onStream}
 use Rattle.bench.proofs.laws.ListPlaces.{nth-there, nth-each, length-each}
 
 -- ── lists ──
