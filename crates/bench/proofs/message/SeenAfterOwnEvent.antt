@@ -3,7 +3,7 @@ use Prim.Native.Nat.{ℕ, zero, suc, _+_, _-_, _≤_}
 use native.Mathlib.Omega.{arith}
 use mathlib.Core.Path.{_≡_, refl, ap, sym, subst, _∙_, fun-ext}
 use mathlib.Core.Logic.{inr}
-use mathlib.Core.Bool.{Bool, true, false, not, _&&_, _||_, cond}
+use mathlib.Core.Bool.{Bool, true, false, not, _&&_, cond}
 use mathlib.Core.List.{List, [], _∷_, map}
 use lib.ListN.{length}
 use lib.Dec.{T, ltb, eqb, eqb→eq, not-T, T-not}
@@ -28,14 +28,14 @@ use Rattle.bench.specs.Events.{Event, sends, ticks, step, ticked, named,
 use Rattle.bench.specs.Lists.{nth, at}
 use Rattle.bench.proofs.laws.SlotAfterCall.{hear-counter, tick-counter}
 use Rattle.bench.proofs.laws.ModuleAfterEvent.{nth-at, hearsFrame, tickedLive, module-step, deaf, moved-step, length-at, size-step, countOf}
-use Rattle.bench.proofs.laws.ModuleAfterEvent.{asFunction, count-is}
+use Rattle.bench.proofs.laws.ModuleAfterEvent.{asFunction, count-is, hear-kind, tick-kind}
 use Rattle.bench.proofs.laws.BooksAfterEvent.{listed, entering, listed-step, books-sent}
 use Rattle.bench.proofs.laws.FramesOfBooks.{Labels, label-step}
 use Rattle.bench.proofs.message.SendingsSeen.{toSent, sent-again}
-use Rattle.bench.proofs.message.ClassOnBench.{OfClass, ClassOnBench}
+use Rattle.bench.proofs.message.ClassOnBench.{OfClass, Becomes, ClassOnBench}
 use Rattle.bench.proofs.message.ModuleSeen.{toFrame, notes, view, Looks, looks, heard-data, heard-conf, heard-code2}
 use Rattle.bench.proofs.message.ModuleSeen.{ticked-receiver, ticked-other, ticked-log, ticked-log-other}
-use Rattle.bench.proofs.message.StreamSeen.{row-enter, view-entered, view-same, data-view, conf-view, code2-view, tick-view, own-view, heard-log}
+use Rattle.bench.proofs.message.StreamSeen.{row-enter, view-same, view-becomes, data-view, conf-view, code2-view, tick-view, own-view, heard-log}
 use Rattle.one_stream.specs.Sendings as OS
 use Rattle.one_stream.specs.Frames as OF
 use Rattle.one_stream.specs.Classes as OC
@@ -157,7 +157,7 @@ module _ {n : ℕ} {D : OS.Delays} (K : ClassOnBench n D) (s : Stream) (me : ℕ
         (i : ℕ) → T (causes D (K .C) (strandOf b k true .state) e i) → K .C .payload (strandOf b k true .state .receiver i .slot) ≡ carried
 
     -- of what the class sees held at a live receiver that the event reaches
-    caused-bytes : (i : ℕ) (reached : Bool) (test : K .C .Slot → Bool) → (let x = slotAt s i b in let z = strandOf b k true .state .receiver i in
+    pub caused-bytes : (i : ℕ) (reached : Bool) (test : K .C .Slot → Bool) → (let x = slotAt s i b in let z = strandOf b k true .state .receiver i in
         T (isLive i b) → T (isReceiver x) → T reached → T (test (K .held x))
         → (T ((z .live && reached) && test (z .slot)) → K .C .payload (z .slot) ≡ carried) → K .C .payload (K .held x) ≡ carried)
     unfolding view
@@ -212,8 +212,8 @@ module _ {n : ℕ} {D : OS.Delays} (K : ClassOnBench n D) (s : Stream) (me : ℕ
               ∙ (ap (λ t. OC.ticked (K .C) t (asFunction (now (step b ticks))) before) (sym (add-one (countOf b i)))
               ∙ (tick-view K (m .live) (K .held x) (x .pending .abort) (map (toFrame carried) row) (notes s (m .log)) (asFunction (now (step b ticks))) carried
               (isReceiver x) r (countOf b i + 1) late-bytes
-              ∙ sym (view-entered K s carried (now (step b ticks)) m (tickedLive m) row refl (ticked-receiver K s (m .node) (v .nodes i) of r)
-              (ticked-log K s (m .node) (v .nodes i) of r (m .log)))))
+              ∙ sym (view-becomes K s carried (now (step b ticks)) m (tickedLive m) row refl (tick-kind s (m .node))
+              (ticked-receiver K s (m .node) (v .nodes i) of r) (ticked-log K s (m .node) (v .nodes i) of r (m .log)))))
 
       pub tick-strand : (hold : Bool) → OH.act (K .C) (strandOf b k hold) (OH.ticks (lives b))
           ≡ strandOf (step b ticks) (entering s (b .modules) (step b ticks .modules) k)
@@ -325,11 +325,11 @@ module _ {n : ℕ} {D : OS.Delays} (K : ClassOnBench n D) (s : Stream) (me : ℕ
               let plain-not = not-plain-frame s 0 (omega arith) id in
               heard-receiver thePayload i row (OC.hearData (K .C) (countOf b i) p) plain-not (own-no-receiver sender i)
               (λ live r name.
-              let heard : Looks K (isReceiver x) (K .C .onData (countOf b i) p (K .held x)) (x .pending .abort) (slotOf s (hearsFrame f m .node)) =
+              let heard : Becomes (K .C) (K .held) x (K .C .onData (countOf b i) p (K .held x)) false (slotOf s (hearsFrame f m .node)) =
               rw (id, bytes) (heard-data K s (m .node) (v .nodes i) (v .receivers i) (v .small) r p short) in
               data-view K (m .live) (K .held x) (x .pending .abort) (map (toFrame carried) row) (notes s (m .log)) (asFunction t) carried (isReceiver x) r
               (countOf b i) p
-              ∙ sym (view-entered K s carried t m (hearsFrame f m) row refl heard (heard-log s f m plain-not)))
+              ∙ sym (view-becomes K s carried t m (hearsFrame f m) row refl (hear-kind s (f .id) (f .payload) (m .node)) heard (heard-log s f m plain-not)))
               ∙ after-event b (sentTo thePayload) (k .aborts) size (size-step b (sends s 0 thePayload to)) i
               (cond (hearsIt thePayload i) (hearsFrame f m) m) (module-sent thePayload i)
 
@@ -356,12 +356,13 @@ module _ {n : ℕ} {D : OS.Delays} (K : ClassOnBench n D) (s : Stream) (me : ℕ
               let plain-not = not-plain-frame s 1 (omega arith) id in
               heard-receiver theConfirmation i row (OC.hearConf (K .C) (countOf b)) plain-not (own-no-receiver sender i)
               (λ live r name.
-              let heard : Looks K (isReceiver x) (K .C .onConf (K .held x)) (x .pending .abort || K .C .refuses (K .held x)) (slotOf s (hearsFrame f m .node)) =
+              let heard : Becomes (K .C) (K .held) x (K .C .onConf (K .held x)) (K .C .refuses (K .held x)) (slotOf s (hearsFrame f m .node)) =
               rw (id, empty) (heard-conf K s (m .node) (v .nodes i) (v .receivers i) (v .small) r) in
               ap (λ c. OC.hearConf (K .C) c before) (when-sent theConfirmation)
               ∙ (conf-view K (m .live) (K .held x) (x .pending .abort) (map (toFrame carried) row) (notes s (m .log)) (asFunction t) carried (isReceiver x) r
               (λ refuses. caused-bytes b v k size i (named to i) (K .C .refuses) live r name refuses (bytes i))
-              ∙ sym (view-entered K s carried t m (hearsFrame f m) row refl heard (heard-log s f m plain-not))))
+              ∙ sym (view-becomes K s carried t m (hearsFrame f m) row refl (hear-kind s (f .id) (f .payload) (m .node)) heard
+              (heard-log s f m plain-not))))
               ∙ after-event b (sentTo theConfirmation) (k .aborts) size (size-step b (sends s 0 theConfirmation to)) i
               (cond (hearsIt theConfirmation i) (hearsFrame f m) m) (module-sent theConfirmation i)
 
@@ -442,12 +443,13 @@ module _ {n : ℕ} {D : OS.Delays} (K : ClassOnBench n D) (s : Stream) (me : ℕ
                 heard-receiver w i row (OC.hearCode2 (K .C) (countOf b i) (OF.bytesAt y frames)) plain-not (λ r o. not-so other o)
                 (λ live r name.
                 let t = now (sentTo w) in
-                let heard : Looks K (isReceiver x) (K .C .onCode2 (countOf b i) carried (K .held x)) (x .pending .abort) (slotOf s (hearsFrame f m .node)) =
+                let heard : Becomes (K .C) (K .held) x (K .C .onCode2 (countOf b i) carried (K .held x)) false (slotOf s (hearsFrame f m .node)) =
                 rw (id, bytes) (heard-code2 K s (m .node) (v .nodes i) (v .receivers i) (v .small) r p short) in
                 ap (λ c. OC.hearCode2 (K .C) (countOf b i) c (view K s carried m row)) (bytes-sent y (nth [] q (k .aborts)) given)
                 ∙ (code2-view K (m .live) (K .held x) (x .pending .abort) (map (toFrame carried) row) (notes s (m .log)) (asFunction t) carried (isReceiver x) r
                 (countOf b i) carried
-                ∙ sym (view-entered K s carried t m (hearsFrame f m) row refl heard (heard-log s f m plain-not))))
+                ∙ sym (view-becomes K s carried t m (hearsFrame f m) row refl (hear-kind s (f .id) (f .payload) (m .node)) heard
+                (heard-log s f m plain-not))))
 
         pub code2-strand : (hold : Bool)
             → OH.act (K .C) (strandOf b k hold) (OH.on (OC.sendCode2 q y (named to) (isFull to)))

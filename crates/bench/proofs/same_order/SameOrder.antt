@@ -20,18 +20,20 @@ use Rattle.bench.specs.Bench.{Module, Bench, Delivery, sameStream, modul
 use Rattle.bench.specs.SetUp.{Plan, proper, start}
 use Rattle.bench.specs.Events.{Event, asks, gives, sends, ticks, dies, named, isAccepted, isNext, onto, atOnce, deliveries, step, run}
 use Rattle.bench.specs.Rules.{wasFull, keepsSoFar}
-use Rattle.bench.specs.Demands.{tickCount, delivered, noneAccepted, Has, Seen, seenAt, Delivers, DataFull, SameOrder}
+use Rattle.bench.specs.Demands.{tickCount, delivered, noneAccepted, Has, MessageIn, atRequest, atMoment, itsBook, FullData, Delivers}
+use Rattle.bench.specs.Demands.{SameOrder}
 use Rattle.bench.proofs.laws.SlotAfterCall.{same-stream, onStream}
 use Rattle.bench.proofs.laws.ModuleAfterEvent.{stepModule, module-step, countOf}
 use Rattle.bench.proofs.laws.BooksAfterEvent.{books-asked}
 use Rattle.bench.proofs.laws.AtStart.{count-at-start}
-use Rattle.bench.proofs.laws.TicksCounted.{run-append, live-back, count-step, count-run}
+use Rattle.bench.proofs.laws.TicksCounted.{to-the-end, live-back, count-step, count-run}
 use Rattle.bench.proofs.message.SendingsSeen.{toSent, full-was}
 use Rattle.bench.proofs.message.ClassOnBench.{toDelays}
 use Rattle.bench.proofs.message.ModuleSeen.{toNote, notes}
 use Rattle.bench.proofs.message.SeenAfterOwnEvent.{valid-step}
 use Rattle.bench.proofs.message.RequestOpens.{logsOf}
-use Rattle.bench.proofs.message.AcceptedRequest.{Requested, requested}
+use Rattle.bench.proofs.message.AcceptedRequest.{Requested}
+use Rattle.bench.proofs.message.MessageOfHistory.{its-request}
 use Rattle.bench.proofs.two_message.TwoMessageOnBench.{fits, two-message}
 use Rattle.bench.proofs.same_order.LogOrder.{Earlier, receivesPlain, timedAt, in-order, log-order, earlier-before}
 use Rattle.bench.proofs.same_order.DeliveryTicks.{dataOf, Told, not-yet, told, Timed, timed-run}
@@ -142,36 +144,30 @@ record DeliversAt (plan : Plan) (h : List Event) (s : Stream) (t i : ℕ) (d : D
   stream : d .stream ≡ s
   tick : d .at ≡ t
 
-module _ (plan : Plan) (ok : T (proper plan)) (h : List Event) (keeps : T (keepsSoFar (start plan) h)) (m : Seen (start plan) h) where
-  its-request : Requested two-message plan (m .before) (m .since ++ m .rest) (m .sender) (m .stream) (m .payload)
-  its-request =
-      requested two-message plan (m .before) (m .since ++ m .rest) (m .sender) (m .stream) (m .payload) ok
-      (subst (λ l. T (keepsSoFar (start plan) l)) (m .split) keeps)
-      (m .accepted) (m .twoMessage)
+module _ (plan : Plan) (ok : T (proper plan)) (h : List Event) (keeps : T (keepsSoFar (start plan) h)) (m : MessageIn (start plan) h)
+    (k : FullData (start plan) h m) where
+  request : Requested two-message plan (m .before) (m .since ++ m .rest) (m .sender) (m .stream) (m .payload)
+  request = its-request two-message plan ok h keeps m (k .twoMessage)
 
   its-tick : ℕ
-  its-tick = OS.last (dataOf (bookOf (m .stream) 0 (seenAt (start plan) h m))) (m .sender) + its-request .settings .dd + 1
+  its-tick = OS.last (dataOf (itsBook (start plan) h m)) (m .sender) + request .settings .dd + 1
 
-  delivers-at : DataFull (start plan) h m → (i : ℕ) (d : Delivery) → Delivers (start plan) h m i d → DeliversAt plan h (m .stream) its-tick i d
+  delivers-at : (i : ℕ) (d : Delivery) → Delivers (start plan) h m i d → DeliversAt plan h (m .stream) its-tick i d
   unfolding its-tick
-  delivers-at full i d e =
+  delivers-at i d e =
       record {
-        logged = subst (λ (b : Bench). Has d (moduleAt i b .log)) (sym whole) (has-run d (m .rest) (seenAt (start plan) h m) i (newest .0));
+        logged =
+            subst (λ (b : Bench). Has d (moduleAt i b .log)) (sym (to-the-end (start plan) h m))
+            (has-run d (m .rest) (atMoment (start plan) h m) i (newest .0));
         timed =
             subst (λ z. T (timedAt plan i z)) (sym (newest .1))
-            (is-timed plan (m .before) (m .since) (m .rest) (m .sender) (m .stream) (m .payload) its-request i);
+            (is-timed plan (m .before) (m .since) (m .rest) (m .sender) (m .stream) (m .payload) request i);
         stream = newest .1;
-        tick = one-tick plan (m .before) (m .since) (m .rest) (m .sender) (m .stream) (m .payload) its-request (m .accepted) (m .newest) full i d e;
+        tick = one-tick plan (m .before) (m .since) (m .rest) (m .sender) (m .stream) (m .payload) request (m .accepted) (k .newest) (k .full) i d e;
       }
     where
-      newest : Has d (moduleAt i (seenAt (start plan) h m) .log) × (d .stream ≡ m .stream)
-      newest = newest-of (m .stream) d (delivered (m .stream) i (run (start plan) (m .before))) (moduleAt i (seenAt (start plan) h m) .log) e
-
-      whole : run (start plan) h ≡ run (seenAt (start plan) h m) (m .rest)
-      whole =
-          ap (run (start plan)) (m .split)
-          ∙ (run-append (m .before) (asks (m .sender) (m .stream) (m .payload) ∷ (m .since ++ m .rest)) (start plan)
-          ∙ run-append (m .since) (m .rest) (step (run (start plan) (m .before)) (asks (m .sender) (m .stream) (m .payload))))
+      newest : Has d (moduleAt i (atMoment (start plan) h m) .log) × (d .stream ≡ m .stream)
+      newest = newest-of (m .stream) d (delivered (m .stream) i (atRequest (start plan) h m)) (moduleAt i (atMoment (start plan) h m) .log) e
 
 -- the order depends on ticks and streams alone
 earlier-alike : (d e d′ e′ : Delivery) → d′ .at ≡ d .at → d′ .stream ≡ d .stream → e′ .at ≡ e .at → e′ .stream ≡ e .stream → Earlier d e → Earlier d′ e′
@@ -182,11 +178,11 @@ earlier-alike d e d′ e′ p q r t = go (ap (λ (z : Stream). z .0) q) (ap (λ 
     go q t (inr (x, y)) = inr (omega arith, omega arith)
 
 pub same-order : SameOrder
-same-order plan ok h keeps m n full full′ i j d d′ e e′ x x′ y y′ before =
-    let a = delivers-at plan ok h keeps m full i d x in
-    let a′ = delivers-at plan ok h keeps m full j d′ x′ in
-    let c = delivers-at plan ok h keeps n full′ i e y in
-    let c′ = delivers-at plan ok h keeps n full′ j e′ y′ in
+same-order plan ok h keeps m n k k′ i j d d′ e e′ x x′ y y′ before =
+    let a = delivers-at plan ok h keeps m k i d x in
+    let a′ = delivers-at plan ok h keeps m k j d′ x′ in
+    let c = delivers-at plan ok h keeps n k′ i e y in
+    let c′ = delivers-at plan ok h keeps n k′ j e′ y′ in
     earlier-before (timedAt plan j) d′ e′ (moduleAt j (run (start plan) h) .log) (in-order plan ok h j) (a′ .timed) (c′ .timed) (a′ .logged) (c′ .logged)
     (earlier-alike d e d′ e′ (a′ .tick ∙ sym (a .tick)) (a′ .stream ∙ sym (a .stream)) (c′ .tick ∙ sym (c .tick)) (c′ .stream ∙ sym (c .stream))
     (log-order plan ok h i d e (a .timed) (c .timed) before))
