@@ -9,6 +9,7 @@ use Rattle.wire.specs.declared.ids.Stream.{Stream}
 use Rattle.wire.specs.declared.settings.Settings.{Settings}
 use Rattle.wire.specs.Settings.{isTwoMessage}
 use Rattle.node.specs.Slots.{isReceiver}
+use Rattle.node.specs.Tick.{holdLength}
 use Rattle.bench.specs.Lists.{keepOnly}
 use Rattle.bench.specs.Bench.{Book, Delivery, Bench, sameStream, moduleAt, isLive, slotAt, now, bookOf}
 use Rattle.bench.specs.SetUp.{Plan, proper, start}
@@ -105,13 +106,13 @@ module _ (b₀ : Bench) (h : List Event) (m : MessageIn b₀ h) where
 
   -- the module has counted Rd + dd ticks and one more since the request
   abbrev pub HasCounted : ℕ → Type 0
-  HasCounted i = moduleAt i atRequest .node .counter + itsSettings .rd + itsSettings .dd < moduleAt i atMoment .node .counter
+  HasCounted i = moduleAt i atRequest .node .counter + holdLength itsSettings < moduleAt i atMoment .node .counter
 
   -- the moment is a tick: the next after Rd + dd ticks, among other events, since the request
   pub record OneTickBeyond : Type 0 where
     pub earlier : List Event
     pub last : m .since ≡ earlier ++ (ticks ∷ [])
-    pub long : tickCount earlier ≡ itsSettings .rd + itsSettings .dd
+    pub long : tickCount earlier ≡ holdLength itsSettings
 
   -- its book was opened by its request, and its data carries its payload
   pub record OwnBook : Type 0 where

@@ -16,7 +16,7 @@ use Rattle.wire.specs.Frames.{maxPayload}
 use Rattle.wire.specs.Identifiers.{idOf}
 use Rattle.wire.specs.Settings.{receives, isPlain, legal}
 use Rattle.node.specs.Clock.{unbounded}
-use Rattle.node.specs.Nodes.{slotOf, given}
+use Rattle.node.specs.Nodes.{slotOf}
 use Rattle.node.specs.Reachable.{Kept}
 use Rattle.node.specs.Slots.{isReceiver, isSender, payloadOf}
 use Rattle.node.specs.Tick.{late, due, holdOver, lapsed}
