@@ -341,12 +341,13 @@ module _ {n : ℕ} {D : OS.Delays} (K : ClassOnBench n D) (s : Stream) (me : ℕ
               let m = moduleAt i b in
               let x = slotAt s i b in
               let row = nth [] i (k .aborts) in
+              let t = asFunction (now (sentTo thePayload)) in
               let op = OC.hearData (K .C) (countOf b i) p in
               let not-plain = not-plain-frame s 0 (omega arith) id in
               heard-receiver thePayload i row op not-plain (own-no-receiver sender i)
               (λ live r name. became thePayload i row op not-plain (data-heard i r)
-              (data-view K (m .live) (K .held x) (x .pending .abort) (map (toFrame carried) row) (notes s (m .log)) (asFunction (now (sentTo thePayload))) carried
-              (isReceiver x) r (countOf b i) p))
+              (data-view K (m .live) (K .held x) (x .pending .abort) (map (toFrame carried) row) (notes s (m .log)) t carried (isReceiver x) r
+              (countOf b i) p))
               ∙ entered-sent thePayload (k .aborts) size i
 
           pub data-strand : (hold : Bool)
@@ -360,7 +361,8 @@ module _ {n : ℕ} {D : OS.Delays} (K : ClassOnBench n D) (s : Stream) (me : ℕ
         module _ (id : k .confirmation .id ≡ idOf s 1) (empty : k .confirmation .payload ≡ [])
             (bytes : Bytes b v k size (OC.sendConf (named to) (isFull to))) where
           pub conf-heard : (i : ℕ) → (let x = slotAt s i b in T (isReceiver x)
-              → Becomes (K .C) (K .held) x (K .C .onConf (K .held x)) (K .C .refuses (K .held x)) (slotOf s (hearsFrame (k .confirmation) (moduleAt i b) .node)))
+              → Becomes (K .C) (K .held) x (K .C .onConf (K .held x)) (K .C .refuses (K .held x))
+              (slotOf s (hearsFrame (k .confirmation) (moduleAt i b) .node)))
           conf-heard i r = rw (id, empty) (heard-conf K s (moduleAt i b .node) (v .nodes i) (v .receivers i) (v .small) r)
 
           conf-receiver : (i : ℕ) → OC.step (K .C) (strandOf b k true .state) (OC.sendConf (named to) (isFull to)) .receiver i
