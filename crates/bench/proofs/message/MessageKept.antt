@@ -36,10 +36,10 @@ use Rattle.bench.proofs.laws.ModuleAfterEvent.{untouched-step, length-a
 use Rattle.bench.proofs.laws.BooksAfterEvent.{entering, books-ticked, books-dead}
 use Rattle.bench.proofs.laws.FramesOfBooks.{codeIn, AllFrames, all-on-frame, all-entering}
 use Rattle.bench.proofs.message.ClassOnBench.{maySend, Becomes, ClassOnBench}
-use Rattle.bench.proofs.message.ModuleSeen.{view, Carries, carries-on, heard-data, heard-conf, heard-code2}
+use Rattle.bench.proofs.message.ModuleSeen.{view, Carries, carries-on}
 use Rattle.bench.proofs.message.StreamSeen.{row-enter, length-enter}
-use Rattle.bench.proofs.message.SeenAfterOwnEvent.{Valid, not-both, strandOf, lives, Bytes, caused-bytes, tick-strand}
-use Rattle.bench.proofs.message.SeenAfterOwnEvent.{bookAfter, books-after, data-strand, conf-strand, code2-strand}
+use Rattle.bench.proofs.message.SeenAfterOwnEvent.{Valid, not-both, strandOf, lives, Bytes, caused-bytes, tick-strand, bookAfter}
+use Rattle.bench.proofs.message.SeenAfterOwnEvent.{books-after, data-strand, conf-strand, code2-strand, data-heard, conf-heard, code2-heard}
 use Rattle.bench.proofs.message.PayloadKept.{Carrying, carrying-same, carrying-sent, carrying-ticked}
 use Rattle.bench.proofs.message.SeenAfterOtherEvent.{die-other-strand, die-own-strand, else-strand}
 use Rattle.bench.proofs.message.RulesSeen.{was-given, legal-data, legal-conf, legal-code2, legal-tick}
@@ -293,51 +293,43 @@ module _ {n : ℕ} {D : OS.Delays} (K : ClassOnBench n D) (s : Stream) (me : ℕ
       (K .works .causeNew w (x .a) base (x .inv .books) (x .inv .slots) e l paced i c)
       ∙ ap (K .C .carried) (message-step D (K .C) (K .works) w e)
 
+  -- a receiver that hears still carries what it did, and what it was made to
+  still-carries : (f : Frame) (i : ℕ) {h : K .C .Slot} {caused : Bool} → (let x = slotAt s i b in let y = slotOf s (hearsFrame f (moduleAt i b) .node) in
+      Becomes (K .C) (K .held) x h caused y → (T caused → K .C .payload (K .held x) ≡ K .C .carried p)
+      → Carries K (K .C .carried p) x → Carries K (K .C .carried p) y)
+  still-carries f i = carries-on K (K .C .carried p) (slotAt s i b) (slotOf s (hearsFrame f (moduleAt i b) .node))
+
   pub track-send : (w : Which) (to : To) → T (maySend b s (x .k) w) → Follows (step b (sends s 0 w to))
   track-send thePayload to t =
       let c = x .own .content thePayload (was-given b s (x .k) thePayload t) in
       let r = act-keeps D (K .C) (K .works) Z₀ (x .a) base (x .inv) (OH.on (OC.sendData (named to) (isFull to)))
       (tt, legal-data K s me p b v (x .k) (x .own .sender) (x .hold) to t) tt in
       after-sending thePayload to (r .0)
-      (λ i live receives name.
-      let m = moduleAt i b in
-      let h = K .C .onData (countOf b i) p (K .held (slotAt s i b)) in
-      let heard : Becomes (K .C) (K .held) (slotAt s i b) h false (slotOf s (hearsFrame (x .k .payloadFrame) m .node)) =
-      rw (c .0, c .1) (heard-data K s (m .node) (v .nodes i) (v .receivers i) (v .small) receives p (x .sender .short)) in
-      carries-on K (K .C .carried p) (slotAt s i b) (slotOf s (hearsFrame (x .k .payloadFrame) m .node)) heard (λ t. absurd t))
+      (λ i live receives name. still-carries (x .k .payloadFrame) i
+      (data-heard K s me p b v (x .k) (x .ks) (x .books) to (x .own .size) (x .own .sender) (c .0) (c .1) (x .sender .short) i receives) (λ t. absurd t))
       (subst (λ Z. Inv D (K .C) (K .works) Z (r .0) base)
       (data-strand K s me p b v (x .k) (x .ks) (x .books) to (x .own .size) (x .own .sender) (c .0) (c .1) (x .sender .short) (x .hold)) (r .1))
   track-send theConfirmation to t =
       let c = x .own .content theConfirmation (was-given b s (x .k) theConfirmation t) in
       let legal = legal-conf K s me p b v (x .k) (x .own .sender) (x .hold) to t in
-      let r = act-keeps D (K .C) (K .works) Z₀ (x .a) base (x .inv) (OH.on (OC.sendConf (named to) (isFull to))) legal tt in
       let pends = bytes (OC.sendConf (named to) (isFull to)) legal tt in
+      let r = act-keeps D (K .C) (K .works) Z₀ (x .a) base (x .inv) (OH.on (OC.sendConf (named to) (isFull to))) legal tt in
       after-sending theConfirmation to (r .0)
-      (λ i live receives name.
-      let m = moduleAt i b in
-      let h = K .held (slotAt s i b) in
-      let heard : Becomes (K .C) (K .held) (slotAt s i b) (K .C .onConf h) (K .C .refuses h) (slotOf s (hearsFrame (x .k .confirmation) m .node)) =
-      rw (c .0, c .1) (heard-conf K s (m .node) (v .nodes i) (v .receivers i) (v .small) receives) in
-      carries-on K (K .C .carried p) (slotAt s i b) (slotOf s (hearsFrame (x .k .confirmation) m .node)) heard
+      (λ i live receives name. still-carries (x .k .confirmation) i
+      (conf-heard K s me p b v (x .k) (x .ks) (x .books) to (x .own .size) (x .own .sender) (c .0) (c .1) pends i receives)
       (λ refuses. caused-bytes K s me p b v (x .k) (x .own .size) i (named to i) (K .C .refuses) live receives name refuses (pends i)))
       (subst (λ Z. Inv D (K .C) (K .works) Z (r .0) base)
-      (conf-strand K s me p b v (x .k) (x .ks) (x .books) to (x .own .size) (x .own .sender) (c .0) (c .1)
-      pends (x .hold)) (r .1))
+      (conf-strand K s me p b v (x .k) (x .ks) (x .books) to (x .own .size) (x .own .sender) (c .0) (c .1) pends (x .hold)) (r .1))
   track-send (theAbort q y) to t =
-      let c = x .own .content (theAbort q y) (was-given b s (x .k) (theAbort q y) t) in
+      let given = was-given b s (x .k) (theAbort q y) t in
+      let c = x .own .content (theAbort q y) given in
       let r = act-keeps D (K .C) (K .works) Z₀ (x .a) base (x .inv) (OH.on (OC.sendCode2 q y (named to) (isFull to)))
       (legal-code2 K s me p b v (x .k) (x .own .sender) (x .hold) (x .own .rows) q y to t) tt in
       after-sending (theAbort q y) to (r .0)
-      (λ i live receives name.
-      let m = moduleAt i b in
-      let f = frameOf (theAbort q y) (x .k) in
-      let h = K .C .onCode2 (countOf b i) (K .C .carried p) (K .held (slotAt s i b)) in
-      let heard : Becomes (K .C) (K .held) (slotAt s i b) h false (slotOf s (hearsFrame f m .node)) =
-      rw (c .0, c .1) (heard-code2 K s (m .node) (v .nodes i) (v .receivers i) (v .small) receives p (x .sender .short)) in
-      carries-on K (K .C .carried p) (slotAt s i b) (slotOf s (hearsFrame f m .node)) heard (λ t. absurd t))
+      (λ i live receives name. still-carries (frameOf (theAbort q y) (x .k)) i
+      (code2-heard K s me p b v (x .k) (x .ks) (x .books) to (x .own .size) q y given (c .0) (c .1) (x .sender .short) i receives) (λ t. absurd t))
       (subst (λ Z. Inv D (K .C) (K .works) Z (r .0) base)
-      (code2-strand K s me p b v (x .k) (x .ks) (x .books) to (x .own .size) q y (was-given b s (x .k) (theAbort q y) t) (c .0) (c .1)
-      (x .sender .short) (x .hold)) (r .1))
+      (code2-strand K s me p b v (x .k) (x .ks) (x .books) to (x .own .size) q y given (c .0) (c .1) (x .sender .short) (x .hold)) (r .1))
 
   -- ── a death ──
   pub track-death : (j : ℕ) → Follows (step b (dies j))

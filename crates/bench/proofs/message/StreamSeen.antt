@@ -134,7 +134,7 @@ module _ {n : ℕ} {D : OS.Delays} (K : ClassOnBench n D) where
 
   module _ (l : Bool) (h : C .Slot) (p : Bool) (fs : List OF.Frame) (log : List OC.Note) (now : OS.Moment) (carried : List ℕ) where
     -- the receiver after an event that leaves h′ in its slot, and may have caused a frame
-    abbrev seen : (r : Bool) → C .Slot → (caused : Bool) → List OC.Note → OC.Receiver C
+    abbrev pub seen : (r : Bool) → C .Slot → (caused : Bool) → List OC.Note → OC.Receiver C
     seen r h′ caused log′ = viewOf K l r h′ (p || caused) (cond (caused && not (C .merges && p)) (OF.newFrame now carried ∷ fs) fs) log′
 
     pub data-view : (r : Bool) → T r → (t : ℕ) (b : List ℕ) → OC.hearData C t b (viewOf K l r h p fs log) ≡ seen r (C .onData t b h) false log
