@@ -7,8 +7,6 @@ use mathlib.Core.List.{List, [], _∷_, map}
 use lib.Dec.{T}
 use Rattle.wire.specs.declared.ids.Stream.{Stream}
 use Rattle.wire.specs.Identifiers.{streamOf}
-use Rattle.node.specs.Calls.{after}
-use Rattle.node.specs.Tick.{place}
 use Rattle.one_stream.proofs.Truth.{cond-elim, decide}
 use Rattle.bench.specs.Bench.{Module, Bench, Frame, Which, thePayload, theConfirmation, theAbort, Book, Ledger, booksIn, booksOf}
 use Rattle.bench.specs.Bench.{bookOf, noBook, pendingSince, counts, now, frameOf, sameStream}

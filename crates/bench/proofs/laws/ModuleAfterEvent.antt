@@ -24,7 +24,6 @@ use Rattle.node.specs.Reachable.{Kept}
 use Rattle.node.specs.Slots.{isReceiver}
 use Rattle.node.proofs.Choices.{into, either-way}
 use Rattle.node.proofs.Kept.{kept-by}
-use Rattle.node.proofs.Moments.{node}
 use Rattle.node.proofs.Streams.{kindOf, heard-keeps, lapsed-keeps, requested-keeps, given-out-keeps}
 use Rattle.one_stream.proofs.Truth.{cond-elim, cond-false, and-l, and-r, both, is-true, so, not-so}
 use Rattle.bench.specs.Bench.{Module, Bench, Frame, noModule, moduleAt, isLive, counts, now, bookOf, frameOf, ownerOf, Delivery}
