@@ -1,7 +1,6 @@
 // What a module delivered: records one after the other, each with its length (the bytes that follow it), kind, stream and payload.
-use crate::answers;
-use crate::numbers;
 use text::Buffer;
+use text::output;
 ghost use Prim.Native.Nat.{_+_, _≤_, _<_};
 ghost use lib.ListN.{length};
 
@@ -17,7 +16,7 @@ pub struct Place {
 }
 
 // ` TICK:M:STREAM:PAYLOAD` for each record, without the tick where it is not asked for.
-pub fn put_all(out: &mut Buffer, to: usize, place: Place, records: &[u8]) -> usize {
+pub(crate) fn put_all(out: &mut Buffer, to: usize, place: Place, records: &[u8]) -> usize {
     let mut past = to;
     let mut at = 0;
     while at < records.len() {
@@ -30,18 +29,12 @@ pub fn put_all(out: &mut Buffer, to: usize, place: Place, records: &[u8]) -> usi
 }
 
 fn put_place(out: &mut Buffer, to: usize, place: Place) -> usize {
-    let start = answers::put_byte(out, to, b' ');
+    let start = output::put_byte(out, to, b' ');
     if place.dated {
-        let past = answers::put_parted(out, start, place.tick, b':');
-        return answers::put_parted(out, past, place.module as u64, b':');
+        let past = output::put_parted(out, start, place.tick, b':');
+        return output::put_parted(out, past, place.module as u64, b':');
     }
-    answers::put_parted(out, start, place.module as u64, b':')
-}
-
-// The first bytes of an output, so many as were written.
-pub fn first(output: &[u8], written: usize) -> &[u8] {
-    let n = numbers::least(written, output.len());
-    &output[0..n]
+    output::put_parted(out, start, place.module as u64, b':')
 }
 
 // How many bytes the record at an index has, which are at least one and no more than there are.
@@ -58,14 +51,14 @@ fn size_at(records: &[u8], at: usize) -> usize
 }
 
 // `STREAM:PAYLOAD`.
-pub fn put_record(out: &mut Buffer, to: usize, record: &[u8]) -> usize {
+pub(crate) fn put_record(out: &mut Buffer, to: usize, record: &[u8]) -> usize {
     if record.len() < HEAD {
         return to;
     }
     let low = number_of(record[4], record[5]);
     let high = number_of(record[6], record[7]);
-    let past = answers::put_parted(out, to, (low + high * 65536) as u64, b':');
-    answers::put_payload(out, past, &record[HEAD..])
+    let past = output::put_parted(out, to, (low + high * 65536) as u64, b':');
+    output::put_hex(out, past, &record[HEAD..])
 }
 
 fn number_of(low: u8, high: u8) -> usize
