@@ -4,9 +4,9 @@ use crate::answers::Answer;
 use crate::answers::State;
 use crate::lent;
 use text::Buffer;
-use text::first;
 use text::numbers;
 use text::output;
+use text::part;
 use text::payloads;
 use text::words;
 use wire::ids::BusId;
@@ -27,14 +27,14 @@ pub(crate) fn setup(state: State, line: &[u8], at: usize, out: &mut Buffer, to: 
     let ra = numbers::u16_at(line, dc.next, u16::MAX);
     let dd = numbers::u16_at(line, ra.next, u16::MAX);
     if stream.ok & role.ok & class.ok & rd.ok & dc.ok & ra.ok & dd.ok & words::done(line, dd.next) {
-        let settings = Settings {
-            rd: rd.value,
-            dc: dc.value,
-            ra: ra.value,
-            dd: dd.value,
-            role: role.value,
-            class: class.value,
-        };
+        let settings = Settings::of(
+            role.value,
+            class.value,
+            rd.value,
+            dc.value,
+            ra.value,
+            dd.value,
+        );
         let node = state.node;
         let answer = node.set_up(Stream(stream.value), settings);
         let reply = answer.reply;
@@ -53,7 +53,7 @@ pub(crate) fn request(state: State, line: &[u8], at: usize, out: &mut Buffer, to
     let payload = payloads::payload_at(line, stream.next, &mut bytes);
     if stream.ok & payload.ok & words::done(line, payload.next) {
         let node = state.node;
-        let answer = node.request(Stream(stream.value), first(&bytes, payload.len));
+        let answer = node.request(Stream(stream.value), part(&bytes, 0, payload.len));
         let reply = answer.reply;
         return Answer {
             state: answers::after(answer.node, state.tally, reply),
@@ -76,7 +76,7 @@ pub(crate) fn hear(state: State, line: &[u8], at: usize, out: &mut Buffer, to: u
             state.node,
             BusId(id.value),
             dlc.value,
-            first(&bytes, payload.len),
+            part(&bytes, 0, payload.len),
             &mut output,
             size.value,
         );
@@ -84,7 +84,7 @@ pub(crate) fn hear(state: State, line: &[u8], at: usize, out: &mut Buffer, to: u
         let past = put_written(out, to, reply, answer.written);
         return Answer {
             state: answers::after(answer.node, state.tally, reply),
-            to: output::put_hex(out, past, first(&output, size.value)),
+            to: output::put_hex(out, past, part(&output, 0, size.value)),
         };
     }
     answers::unread(state, out, to)
@@ -98,7 +98,7 @@ pub(crate) fn tick(state: State, line: &[u8], at: usize, out: &mut Buffer, to: u
         let answer = lent::tick(state.node, &mut output, size.value);
         let reply = answer.reply;
         let past = put_written(out, to, reply, answer.written);
-        let end = output::put_hex(out, past, first(&output, answer.written));
+        let end = output::put_hex(out, past, part(&output, 0, answer.written));
         return Answer {
             state: answers::after(answer.node, state.tally, reply),
             to: put_clean(out, end, lent::is_clean(&output, answer.written)),
@@ -117,7 +117,7 @@ pub(crate) fn next(state: State, line: &[u8], at: usize, out: &mut Buffer, to: u
         let past = put_frame(out, to, reply, answer.id, answer.len);
         return Answer {
             state: answers::after(answer.node, state.tally, reply),
-            to: output::put_hex(out, past, first(&output, size.value)),
+            to: output::put_hex(out, past, part(&output, 0, size.value)),
         };
     }
     answers::unread(state, out, to)

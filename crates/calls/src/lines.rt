@@ -3,19 +3,17 @@ use crate::answers;
 use crate::answers::Answer;
 use crate::answers::State;
 use crate::calls;
+use node::Node;
 use text::Buffer;
-use text::first;
 use text::input::Kind;
 use text::input::Step;
 use text::numbers;
 use text::output;
+use text::part;
 use text::words;
 
 // The most ticks of one line.
 const TICKS: u64 = 65536;
-
-// What a tick is lent.
-const OUTPUT: usize = 512;
 
 enum Command {
     Fresh,
@@ -70,9 +68,7 @@ pub(crate) fn answer(state: State, step: Step, line: &[u8], out: &mut Buffer, to
 
 fn read(state: State, line: &[u8], out: &mut Buffer, to: usize) -> Answer {
     let w = words::word_at(line, 0);
-    let start = w.start;
-    let end = w.end;
-    let command = command_of(&line[start..end]);
+    let command = command_of(part(line, w.start, w.end));
     named(command, state, line, w.next, out, to)
 }
 
@@ -134,7 +130,7 @@ fn many(state: State, n: u64, out: &mut Buffer, to: usize) -> Answer {
 
 // The kth tick, with `K BYTES ` where it wrote something.
 fn one(before: Answer, k: u64, out: &mut Buffer) -> Answer {
-    let mut output = [0u8; OUTPUT];
+    let mut output = [0u8; Node::TICK_ROOM];
     let state = before.state;
     let node = state.node;
     let answer = node.tick(&mut output);
@@ -150,7 +146,7 @@ fn put_tick(out: &mut Buffer, to: usize, k: u64, bytes: &[u8], written: usize) -
         return to;
     }
     let start = output::put_parted(out, to, k, b' ');
-    let end = output::put_hex(out, start, first(bytes, written));
+    let end = output::put_hex(out, start, part(bytes, 0, written));
     output::put_byte(out, end, b' ')
 }
 

@@ -29,30 +29,9 @@ pub(crate) fn stream_of(k: u32) -> u32
 // The settings of a stream of this role and class.
 pub(crate) fn settings_of(role: u8, class: u32) -> Settings {
     match class {
-        0 => Settings {
-            rd: 0,
-            dc: 0,
-            ra: 0,
-            dd: 0,
-            role,
-            class: Settings::PLAIN,
-        },
-        1 => Settings {
-            rd: 50,
-            dc: 0,
-            ra: 0,
-            dd: 100,
-            role,
-            class: Settings::IMD,
-        },
-        _ => Settings {
-            rd: 50,
-            dc: 80,
-            ra: 10,
-            dd: 100,
-            role,
-            class: Settings::TWO_MESSAGE,
-        },
+        0 => Settings::of_plain(role),
+        1 => Settings::of_imd(role, 50, 100),
+        _ => Settings::of_two_message(role, 50, 80, 10, 100),
     }
 }
 

@@ -9,6 +9,7 @@ use text::input::Kind;
 use text::input::Step;
 use text::numbers;
 use text::output;
+use text::part;
 use text::words;
 
 mod asking;
@@ -36,12 +37,10 @@ fn answer(step: Step, line: &[u8], out: &mut Buffer, to: usize) -> usize {
 // Writes the checksum of the line's workload, or `?` where the line can't be read.
 fn read(line: &[u8], out: &mut Buffer, to: usize) -> usize {
     let w = words::word_at(line, 0);
-    let start = w.start;
-    let end = w.end;
     let rounds = numbers::number_at(line, w.next, MOST);
     let calls = numbers::number_at(line, rounds.next, MOST);
     if rounds.ok & calls.ok & words::done(line, calls.next) {
-        let named = work::work_named(&line[start..end]);
+        let named = work::work_named(part(line, w.start, w.end));
         if let Named::Is(work) = named {
             let sum = work::run(work, rounds.value, calls.value);
             return output::put_decimal(out, to, sum as u64);

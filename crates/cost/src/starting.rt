@@ -1,6 +1,7 @@
 // The nodes that the workloads start from.
 use crate::asking;
 use node::Node;
+use node::slots::Message;
 use wire::ids::BusId;
 use wire::ids::Stream;
 use wire::settings::Settings;
@@ -23,8 +24,7 @@ fn settings(streams: Streams, k: u32) -> Settings {
     }
 }
 
-// As many streams as a node has slots.
-const STREAMS: u32 = 32;
+const STREAMS: u32 = Node::SLOTS as u32;
 
 // A node with all its streams.
 pub(crate) fn set_up(streams: Streams) -> Node {
@@ -59,7 +59,7 @@ fn heard(node: Node, k: u32) -> Node {
     let id = asking::stream_of(k) * 4;
     let payload = asking::payload_of(0);
     let mut out = [0u8; Node::HEAR_ROOM];
-    let first = node.hear(BusId(id), 8, &payload[0..8], &mut out);
+    let first = node.hear(BusId(id), 8, &payload[0..Message::MAX_LEN], &mut out);
     let mid = first.node;
     let second = mid.hear(BusId(id + 1), 0, &payload[0..0], &mut out);
     second.node
@@ -85,6 +85,6 @@ pub(crate) fn later(start: Node, ticks: u32) -> Node {
 // The node with the data of stream k, an IMD one, pending.
 pub(crate) fn requested(node: Node, k: u32) -> Node {
     let payload = asking::payload_of(0);
-    let answer = node.request(Stream(asking::stream_of(k)), &payload[0..8]);
+    let answer = node.request(Stream(asking::stream_of(k)), &payload[0..Message::MAX_LEN]);
     answer.node
 }

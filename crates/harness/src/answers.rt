@@ -1,5 +1,5 @@
 // The state that the lines drive, and the answers to them.
-use bench::Bench;
+use bench_in_code::Bench;
 use text::Buffer;
 use text::output;
 use wire::reply::Reply;
@@ -20,10 +20,8 @@ pub struct Answer {
 }
 
 impl State {
-    // How many modules a bench has.
+    // The fewest modules of a bench.
     pub const LEAST: usize = 2;
-
-    pub const MOST: usize = 8;
 
     // A bench of so many fresh modules.
     pub(crate) fn of(modules: usize) -> State {

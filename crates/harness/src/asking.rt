@@ -6,8 +6,8 @@ use crate::lines::Verb;
 use crate::names;
 use crate::ticking;
 use text::Buffer;
-use text::first;
 use text::numbers;
+use text::part;
 use text::payloads;
 use text::words;
 use wire::ids::Stream;
@@ -43,14 +43,14 @@ fn setup(state: State, line: &[u8], at: usize, out: &mut Buffer, to: usize) -> A
     let dd = numbers::u16_at(line, ra.next, u16::MAX);
     let numbers_ok = rd.ok & dc.ok & ra.ok & dd.ok & words::done(line, dd.next);
     if who.ok & stream.ok & role.ok & class.ok & numbers_ok {
-        let settings = Settings {
-            rd: rd.value,
-            dc: dc.value,
-            ra: ra.value,
-            dd: dd.value,
-            role: role.value,
-            class: class.value,
-        };
+        let settings = Settings::of(
+            role.value,
+            class.value,
+            rd.value,
+            dc.value,
+            ra.value,
+            dd.value,
+        );
         let bench = state.bench;
         let asked = bench.set_up(who.value, Stream(stream.value), settings);
         let reply = asked.reply;
@@ -70,7 +70,11 @@ fn request(state: State, line: &[u8], at: usize, out: &mut Buffer, to: usize) ->
     let payload = payloads::payload_at(line, stream.next, &mut bytes);
     if who.ok & stream.ok & payload.ok & words::done(line, payload.next) {
         let bench = state.bench;
-        let asked = bench.request(who.value, Stream(stream.value), first(&bytes, payload.len));
+        let asked = bench.request(
+            who.value,
+            Stream(stream.value),
+            part(&bytes, 0, payload.len),
+        );
         let reply = asked.reply;
         return Answer {
             state: state.with(asked.bench),

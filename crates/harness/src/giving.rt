@@ -3,13 +3,14 @@ use crate::answers;
 use crate::answers::State;
 use crate::lines::Verb;
 use crate::names;
-use bench::Giving;
-use bench::outbox::Frame;
-use bench::outbox::Frames;
+use bench_in_code::Bench;
+use bench_in_code::Giving;
+use bench_in_code::outbox::Frame;
+use bench_in_code::outbox::Frames;
 use text::Buffer;
-use text::first;
 use text::numbers;
 use text::output;
+use text::part;
 use text::words;
 use wire::reply::Reply;
 ghost use mathlib.Core.Path.{_≡_};
@@ -46,7 +47,7 @@ fn modules(
     out: &mut Buffer,
     to: usize,
 ) -> Gave {
-    let n = numbers::usize_at(line, at, State::MOST);
+    let n = numbers::usize_at(line, at, Bench::PLACES);
     if n.ok & (State::LEAST <= n.value) & words::done(line, n.next) {
         let past = output::put(out, to, b"modules ");
         return Gave {
@@ -105,5 +106,5 @@ fn put_frame(out: &mut Buffer, to: usize, number: usize, frame: Frame) -> usize 
     let id = frame.id;
     let past = output::put_parted(out, mid, id.0 as u64, b' ');
     let bytes = frame.all_bytes();
-    output::put_hex(out, past, first(&bytes, frame.payload_length()))
+    output::put_hex(out, past, part(&bytes, 0, frame.payload_length()))
 }

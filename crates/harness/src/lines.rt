@@ -3,6 +3,7 @@ use text::Buffer;
 use text::input::Kind;
 use text::input::Step;
 use text::output;
+use text::part;
 use text::words;
 
 // What a line goes by: the frames given out change, one of them is sent, or they are left alone.
@@ -67,9 +68,7 @@ fn verb_of(line: &[u8]) -> Verb {
         return Verb::Skip;
     }
     let w = words::word_at(line, 0);
-    let start = w.start;
-    let end = w.end;
-    named(&line[start..end])
+    named(part(line, w.start, w.end))
 }
 
 fn is_skipped(line: &[u8]) -> bool {

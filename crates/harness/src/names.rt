@@ -1,6 +1,6 @@
 // The numbers by which a line names modules and frames.
-use crate::answers::State;
-use bench::outbox::Frames;
+use bench_in_code::Bench;
+use bench_in_code::outbox::Frames;
 use text::numbers;
 ghost use Prim.Native.Nat.{_≤_, _<_, min};
 ghost use lib.ListN.{length};
@@ -16,7 +16,7 @@ pub struct Name {
 pub(crate) fn module_at(line: &[u8], at: usize, modules: usize) -> Name
     ensures { λ r. ⌜ (r .value ≤ 7) × (min at (length (now (line .entry))) < r .next) ⌝ }
 {
-    let n = numbers::usize_at(line, at, State::MOST - 1);
+    let n = numbers::usize_at(line, at, Bench::PLACES - 1);
     Name {
         ok: n.ok & (n.value < modules),
         value: n.value,

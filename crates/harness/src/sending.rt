@@ -5,12 +5,13 @@ use crate::answers::State;
 use crate::lines::Verb;
 use crate::names;
 use crate::records;
-use bench::outbox::Frame;
-use bench::outbox::Frames;
-use bench::parts::Said;
+use bench_in_code::Bench;
+use bench_in_code::outbox::Frame;
+use bench_in_code::outbox::Frames;
+use bench_in_code::stations::Said;
 use text::Buffer;
-use text::first;
 use text::output;
+use text::part;
 use text::words;
 
 // The frame that a line names, and the index of the next word.
@@ -33,7 +34,7 @@ pub(crate) fn frame_in(frames: Frames, line: &[u8]) -> Named {
 // Those that are to hear a sending.
 struct Hearers {
     ok: bool,
-    to: [bool; State::MOST],
+    to: [bool; Bench::PLACES],
 }
 
 pub(crate) fn line(
@@ -55,7 +56,7 @@ pub(crate) fn line(
 fn full(state: State, named: Named, line: &[u8], out: &mut Buffer, to: usize) -> Answer {
     if named.ok & words::done(line, named.next) {
         let frame = named.frame;
-        return send(state, frame, [true; State::MOST], out, to);
+        return send(state, frame, [true; Bench::PLACES], out, to);
     }
     answers::unread(state, out, to)
 }
@@ -74,7 +75,7 @@ fn short(state: State, named: Named, line: &[u8], out: &mut Buffer, to: usize) -
 // The modules that the words from an index on name.
 fn hearers_at(line: &[u8], at: usize, modules: usize) -> Hearers {
     let mut ok = true;
-    let mut to = [false; State::MOST];
+    let mut to = [false; Bench::PLACES];
     let mut next = at;
     while next <= line.len() {
         let name = names::module_at(line, next, modules);
@@ -89,7 +90,7 @@ fn hearers_at(line: &[u8], at: usize, modules: usize) -> Hearers {
 fn send(
     state: State,
     frame: Frame,
-    hearers: [bool; State::MOST],
+    hearers: [bool; Bench::PLACES],
     out: &mut Buffer,
     to: usize,
 ) -> Answer {
@@ -102,14 +103,14 @@ fn send(
     }
 }
 
-fn put_sent(out: &mut Buffer, to: usize, sent: bool, said: [Said; State::MOST]) -> usize {
+fn put_sent(out: &mut Buffer, to: usize, sent: bool, said: [Said; Bench::PLACES]) -> usize {
     if !sent {
         return answers::put_dead(out, to);
     }
     let mut past = to;
     let mut heard = false;
     let mut i = 0;
-    while i < State::MOST {
+    while i < Bench::PLACES {
         let s = said[i];
         past = put_hearing(out, past, i, heard, s);
         heard = heard | s.heard;
@@ -137,7 +138,7 @@ fn put_hearing(out: &mut Buffer, to: usize, module: usize, more: bool, said: Sai
     }
     let bytes = said.bytes;
     let end = output::put_byte(out, past, b':');
-    records::put_record(out, end, first(&bytes, said.len))
+    records::put_first(out, end, part(&bytes, 0, said.len))
 }
 
 fn put_space(out: &mut Buffer, to: usize, wanted: bool) -> usize {

@@ -4,11 +4,12 @@ use crate::answers::Answer;
 use crate::answers::State;
 use crate::records;
 use crate::records::Place;
-use bench::parts::Said;
+use bench_in_code::Bench;
+use bench_in_code::stations::Said;
 use text::Buffer;
-use text::first;
 use text::numbers;
 use text::output;
+use text::part;
 use text::words;
 
 // The most ticks of one line.
@@ -65,13 +66,13 @@ fn run(state: State, n: u64, dated: bool, out: &mut Buffer, to: usize) -> Answer
 fn put_told(
     out: &mut Buffer,
     to: usize,
-    said: [Said; State::MOST],
+    said: [Said; Bench::PLACES],
     tick: u64,
     dated: bool,
 ) -> usize {
     let mut past = to;
     let mut i = 0;
-    while i < State::MOST {
+    while i < Bench::PLACES {
         let s = said[i];
         let place = Place {
             module: i,
@@ -86,5 +87,5 @@ fn put_told(
 
 fn put_said(out: &mut Buffer, to: usize, place: Place, said: Said) -> usize {
     let bytes = said.bytes;
-    records::put_all(out, to, place, first(&bytes, said.len))
+    records::put_all(out, to, place, part(&bytes, 0, said.len))
 }

@@ -3,7 +3,7 @@ use mathlib.Core.Path.{_≡_, sym, _∙_}
 use denote.Ref.{now}
 use Rattle.text.specs.Unique.{OneAnswer, OneContent}
 use Rattle.text.proofs.least.Reads as least
-use Rattle.text.proofs.first.Reads as first
+use Rattle.text.proofs.part.Reads as part
 use Rattle.text.proofs.input.Input.new.Reads as new
 use Rattle.text.proofs.input.Input.next.Reads as next
 use Rattle.text.proofs.input.is_end.Reads as is-end
@@ -34,8 +34,8 @@ same p q = p ∙ sym q
 least-unique : OneAnswer (λ l a. a) least.Post
 least-unique l input a b s t = same
 
-first-unique : OneAnswer (λ l a. now a) first.Post
-first-unique l input a b s t = same
+part-unique : OneAnswer (λ l a. now a) part.Post
+part-unique l input a b s t = same
 
 new-unique : OneAnswer (λ l a. a) new.Post
 new-unique l input a b s t = same

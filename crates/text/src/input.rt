@@ -8,6 +8,7 @@ use crate::Buffer;
 use crate::SIZE;
 use crate::least;
 use crate::output;
+use crate::part;
 ghost use Prim.Native.Nat.{_+_, _-_, _≤_};
 ghost use mathlib.Core.Bool.{cond};
 ghost use mathlib.Core.Path.{_≡_};
@@ -137,10 +138,7 @@ pub fn is_end(step: Step) -> bool
 pub fn line(step: Step, buf: &Buffer) -> &[u8]
     ensures { λ r. ⌜ now r ≡ lineIn (now (buf .entry)) step ⌝ }
 {
-    let all = &buf[..];
-    let end = least(step.end, SIZE);
-    let start = least(step.start, end);
-    &all[start..end]
+    part(buf, step.start, step.end)
 }
 
 // What to go on from, and the index in the output to go on at.

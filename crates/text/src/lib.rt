@@ -9,8 +9,8 @@ pub mod output;
 pub mod payloads;
 pub mod words;
 
-ghost use Prim.Native.Nat.{min};
-ghost use lib.ListN.{take};
+ghost use Prim.Native.Nat.{_-_, min};
+ghost use lib.ListN.{take, drop};
 ghost use mathlib.Core.Path.{_≡_};
 
 // How many bytes the buffers have that a program lends, one for its input and one for its output.
@@ -25,12 +25,13 @@ pub fn least(a: usize, b: usize) -> usize
     if a < b { a } else { b }
 }
 
-// The first n bytes, or all of them where there are fewer.
-pub fn first(s: &[u8], n: usize) -> &[u8]
-    ensures { λ r. ⌜ now r ≡ take n (now (s .entry)) ⌝ }
+// The bytes from one index up to another, or as many of them as there are.
+pub fn part(s: &[u8], from: usize, to: usize) -> &[u8]
+    ensures { λ r. ⌜ now r ≡ take (to - from) (drop from (now (s .entry))) ⌝ }
 {
-    let end = least(n, s.len());
-    &s[0..end]
+    let end = least(to, s.len());
+    let start = least(from, end);
+    &s[start..end]
 }
 
 fn wide(x: u8) -> u64
