@@ -44,7 +44,7 @@ lapsed age x =
     (cond (due age x) (withMessage noMessage x)
     (cond (holdOver age x) (withMessage (released (x .message)) x) x))
 
--- x in its place in a list that ascends by stream; a stream has one place
+-- x in its place in a list that ascends by stream. A stream has one place: that two slots have one stream is true only of nodes that no call makes.
 abbrev pub place : Slot → List Slot → List Slot
 place x [] = x ∷ []
 place x (y ∷ ys) =

@@ -119,14 +119,7 @@ pub struct Slot {
 impl Slot {
     pub const EMPTY: Slot = Slot {
         stream: Stream(0),
-        settings: Settings {
-            rd: 0,
-            dc: 0,
-            ra: 0,
-            dd: 0,
-            role: 0,
-            class: 0,
-        },
+        settings: Settings::NONE,
         message: Message::NONE,
         pending: Pending::NONE,
         used: false,

@@ -4,6 +4,7 @@ use Prim.Native.Nat.{ℕ}
 use mathlib.Core.Path.{refl}
 use mathlib.Core.List.{List, [], _∷_, _++_}
 use Rattle.wire.specs.declared.ids.Stream.{Stream}
+use Rattle.wire.specs.Settings.{ofPlain, ofImd}
 use Rattle.bench.specs.Bench.{Delivery, thePayload, theConfirmation, theAbort}
 use Rattle.bench.specs.SetUp.{Entry, Plan, start}
 use Rattle.bench.specs.Events.{Event, asks, gives, sends, ticks, dies, all, only}
@@ -23,10 +24,10 @@ six = record { 0 = 6 }
 
 -- what a module is set up with, by its role: 0 receive, 1 send
 abbrev three-as : (role : ℕ) → Entry
-three-as role = record { stream = three; settings = record { rd = 0; dc = 0; ra = 0; dd = 0; role = role; class = 0 } }
+three-as role = record { stream = three; settings = ofPlain role }
 
 abbrev four-as : (role : ℕ) → Entry
-four-as role = record { stream = four; settings = record { rd = 2; dc = 0; ra = 0; dd = 4; role = role; class = 1 } }
+four-as role = record { stream = four; settings = ofImd role 2 4 }
 
 abbrev five-as : (role : ℕ) → Entry
 five-as role = twoM five 2 3 2 6 role

@@ -18,7 +18,7 @@ use Rattle.node.specs.declared.slots.Message.{Message}
 use Rattle.node.specs.declared.slots.Pending.{Pending}
 use Rattle.node.specs.declared.slots.Slot.{Slot}
 use Rattle.node.specs.Slots.{padded, noMessage, holding, keeping, restamped, confirmed, released, nonePending, abortPending, empty, isReceiver}
-use Rattle.node.specs.Slots.{isSender, withParts, withMessage}
+use Rattle.node.specs.Slots.{frames, isSender, withParts, withMessage}
 use Rattle.node.specs.SetUp.{slotFor}
 use Rattle.node.specs.Reachable.{longest, KeptMessage, KeptPending, KeptSlot}
 use Rattle.node.specs.Hear.{dataHeard, confirmationHeard, abortHeard, heardBy}
@@ -312,9 +312,9 @@ module _ (now : ℕ) (x : Slot) (k : KeptSlot now x) where
       p = x .pending
 
       by-code : (c₁ c₂ : Bool) → KeptPending (x .settings)
-          (cond c₁ (record { payload = p .payload; confirmation = false; abort = p .abort })
-          (cond c₂ (record { payload = p .payload; confirmation = p .confirmation; abort = false })
-          (record { payload = false; confirmation = p .confirmation; abort = p .abort })))
+          (cond c₁ (frames (p .payload) false (p .abort))
+          (cond c₂ (frames (p .payload) (p .confirmation) false)
+          (frames false (p .confirmation) (p .abort))))
       by-code true c₂ =
           record { payload-sent = k .pending .payload-sent; confirmation-sent = λ h. contrary h refl; abort-received = k .pending .abort-received }
       by-code false true =
