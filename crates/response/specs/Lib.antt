@@ -1,0 +1,5 @@
+pub mod Verdicts
+pub mod Streams
+pub mod Waiting
+pub mod Recurrence
+pub mod Sheet

@@ -1,0 +1,46 @@
+-- What claims the bus before a message, as numbers alone. Only contracts of private functions cite this.
+use mathlib.Core.Path.{_≡_}
+use Prim.Native.Nat.{ℕ, zero, suc, _+_, _*_, _≤_, _<_}
+use mathlib.Core.Bool.{Bool}
+use mathlib.Core.List.{List}
+use lib.ListN.{getD}
+use lib.Dec.{eqb}
+use Rattle.response.specs.Streams.{most}
+use Rattle.response.specs.Waiting.{ceiling}
+
+-- f 0 + .. + f (n - 1)
+abbrev pub sumTo : (ℕ → ℕ) → ℕ → ℕ
+sumTo f zero = 0
+sumTo f (suc n) = sumTo f n + f n
+
+-- a claim takes the bus for its cost, once for each of its periods that begins before the lead has passed after the waiting time
+abbrev pub claimed : (cost period lead w : ℕ) → ℕ
+claimed cost period lead w = ceiling (w + lead) period * cost
+
+module _ (costs periods leads : List ℕ) where
+  abbrev pub claimAt : (w k : ℕ) → ℕ
+  claimAt w k = claimed (getD costs k 0) (getD periods k 0) (getD leads k 0) w
+
+  unfoldable pub asked : (n w : ℕ) → ℕ
+  asked n w = sumTo (claimAt w) n
+
+  -- the equation with the first n claims
+  unfoldable pub solvesWith : (n blocking w : ℕ) → Bool
+  solvesWith n blocking w = eqb w (blocking + asked n w)
+
+pub record Claim (cost period lead : ℕ) : Type 0 where
+  pub cost-most : cost ≤ most
+  pub period-least : 1 ≤ period
+  pub period-most : period ≤ most
+  pub lead-least : 1 ≤ lead
+  pub lead-most : lead ≤ most
+
+-- the first n claims and a waiting time are in range
+pub record Ready (costs periods leads : List ℕ) (n w : ℕ) : Type 0 where
+  pub count : n ≤ 65
+  pub claims : (k : ℕ) → k < n → Claim (getD costs k 0) (getD periods k 0) (getD leads k 0)
+  pub waiting : w ≤ most
+
+-- no solution from w on lies below r
+abbrev pub NoneBelow : (costs periods leads : List ℕ) → (n blocking w r : ℕ) → Type 0
+NoneBelow costs periods leads n blocking w r = (v : ℕ) → w ≤ v → v ≡ blocking + asked costs periods leads n v → r ≤ v

@@ -1,0 +1,42 @@
+-- The stream records and the errors that are within the limits.
+use Prim.Native.Nat.{ℕ}
+use mathlib.Core.Bool.{Bool, true, not, _&&_}
+use mathlib.Core.List.{List, [], _∷_}
+use lib.ListN.{length}
+use lib.Dec.{eqb, leb}
+use Rattle.response.specs.declared.streams.StreamRecord.{StreamRecord}
+use Rattle.response.specs.declared.streams.Errors.{Errors}
+
+abbrev pub most : ℕ
+most = 1000000
+
+abbrev pub mostStreams : ℕ
+mostStreams = 64
+
+abbrev pub mostErrors : ℕ
+mostErrors = 16
+
+abbrev pub mostInaccessibility : ℕ
+mostInaccessibility = 10000
+
+abbrev pub inRange : ℕ → Bool
+inRange n = leb 1 n && leb n most
+
+unfoldable pub legalRecord : StreamRecord → Bool
+legalRecord s = inRange (s .priority) && inRange (s .c) && inRange (s .t) && inRange (s .d)
+
+unfoldable pub legalErrors : Errors → Bool
+legalErrors e = leb (e .n) mostErrors && inRange (e .period) && leb (e .inaccessibility) mostInaccessibility
+
+-- no record of the list has this priority
+unfoldable pub unused : (priority : ℕ) → List StreamRecord → Bool
+unused p [] = true
+unused p (j ∷ streams) = not (eqb p (j .priority)) && unused p streams
+
+-- every number in range, and all priorities different
+unfoldable pub legalRecords : List StreamRecord → Bool
+legalRecords [] = true
+legalRecords (s ∷ streams) = legalRecord s && unused (s .priority) streams && legalRecords streams
+
+unfoldable pub legal : List StreamRecord → Errors → Bool
+legal streams errors = leb (length streams) mostStreams && legalErrors errors && legalRecords streams

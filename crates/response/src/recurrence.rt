@@ -1,0 +1,45 @@
+// The recurrence, on numbers alone: the least solution of
+//
+//     w = blocking + Σ ⌈(w + lead) / period⌉ × cost    over the claims on the bus.
+//
+// It goes up from a number that no solution lies below. The right side at such a number is another,
+// since it never falls as w grows; a second bound, `reach`, makes the steps long.
+ghost use mathlib.Core.Path.{_≡_};
+ghost use Prim.Native.Nat.{ℕ, _+_, _*_, _≤_, _<_, max};
+ghost use Rattle.response.specs.Streams.{most};
+ghost use Rattle.response.specs.Waiting.{ceiling, leastFrom};
+ghost use Rattle.response.specs.Recurrence.{claimed, asked, solvesWith, Claim, Ready, NoneBelow};
+
+// A stream list has at most 64 claims, and the errors are one more.
+pub const SIZE: usize = 65;
+
+pub type Numbers = [u64; SIZE];
+
+fn ceil(a: u64, b: u64) -> u64
+    requires { ⌜ (a ≤ 2 * most) × (1 ≤ b) × (b ≤ most) ⌝ }
+    ensures { λ r. ⌜ r ≡ ceiling a b ⌝ }
+{
+    (a + (b - 1)) / b
+}
+
+// What one claim takes while a message waits for w.
+fn claimed(cost: u64, period: u64, lead: u64, w: u64) -> u64
+    requires { ⌜ Claim cost period lead × (w ≤ most) ⌝ }
+    ensures { λ r. ⌜ r ≡ claimed cost period lead w ⌝ }
+{
+    ceil(w + lead, period) * cost
+}
+
+// What the first n claims take.
+fn asked(costs: &Numbers, periods: &Numbers, leads: &Numbers, n: usize, w: u64) -> u64
+    requires { ⌜ Ready (now costs) (now periods) (now leads) n w ⌝ }
+    ensures { λ r. ⌜ r ≡ asked (now (costs .entry)) (now (periods .entry)) (now (leads .entry)) n w ⌝ }
+{
+    let mut sum: u64 = 0;
+    let mut k = 0;
+    while k < n {
+        sum += claimed(costs[k], periods[k], leads[k], w);
+        k += 1;
+    }
+    sum
+}
