@@ -41,6 +41,22 @@ pub record Ready (costs periods leads : List ℕ) (n w : ℕ) : Type 0 where
   pub claims : (k : ℕ) → k < n → Claim (getD costs k 0) (getD periods k 0) (getD leads k 0)
   pub waiting : w ≤ most
 
+-- shares of the bus are counted in parts of this
+abbrev pub whole : ℕ
+whole = 4294967296
+
+-- from w on a claim takes so much, and a share of the bus for as long as the waiting goes on
+pub record ClaimedFrom (cost period lead w fixed share : ℕ) : Type 0 where
+  pub bounds : (v : ℕ) → w ≤ v → whole * fixed + share * (v + 1) ≤ whole * claimed cost period lead v
+  pub fixed-most : fixed ≤ 3000000000000
+  pub share-most : share ≤ whole * most
+
+-- the same of the first n claims, with what they are added to
+pub record AskedFrom (costs periods leads : List ℕ) (n blocking w fixed share : ℕ) : Type 0 where
+  pub bounds : (v : ℕ) → w ≤ v → whole * fixed + share * (v + 1) ≤ whole * (blocking + asked costs periods leads n v)
+  pub fixed-most : fixed ≤ blocking + n * 3000000000000
+  pub share-most : share ≤ n * (whole * most)
+
 -- no solution from w on lies below r
 abbrev pub NoneBelow : (costs periods leads : List ℕ) → (n blocking w r : ℕ) → Type 0
 NoneBelow costs periods leads n blocking w r = (v : ℕ) → w ≤ v → v ≡ blocking + asked costs periods leads n v → r ≤ v
