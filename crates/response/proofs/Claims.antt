@@ -73,14 +73,22 @@ module _ (costs periods leads : List ℕ) where
   asked-by-count (suc n) w q small =
       omega (arith, asked-by-count n w (λ k h. q k (omega arith)) small, claimed-most (q n (omega arith)) w small)
 
+  ready-less : {n m w : ℕ} → Ready costs periods leads n w → m ≤ n → Ready costs periods leads m w
+  ready-less q h = record { count = omega (arith, q .count); claims = λ k l. q .claims k (omega arith); waiting = q .waiting }
+
   pub asked-most : {n w : ℕ} → Ready costs periods leads n w → asked costs periods leads n w ≤ 65 * mostClaimed
   asked-most {n} {w} q = omega (arith, asked-by-count n w (q .claims) (q .waiting), q .count)
+
+  pub asked-mono : (n : ℕ) {w₀ : ℕ} → Ready costs periods leads n w₀ → (w v : ℕ) → w ≤ v → asked costs periods leads n w ≤ asked costs periods leads n v
+  unfolding asked
+  asked-mono zero q w v h = omega arith
+  asked-mono (suc n) q w v h = omega (arith, asked-mono n (ready-less q (omega arith)) w v h, claimed-mono (q .claims n (omega arith)) w v h)
 
   -- and so are the first of them with the next one
   pub partly-most : {n w k : ℕ} → Ready costs periods leads n w → k < n
       → asked costs periods leads k w + claimed (getD costs k 0) (getD periods k 0) (getD leads k 0) w ≤ 65 * mostClaimed
   partly-most {n} {w} {k} q less =
-      rw (← asked-more k w) (asked-most (record { count = omega (arith, q .count); claims = λ j h. q .claims j (omega arith); waiting = q .waiting }))
+      rw (← asked-more k w) (asked-most (ready-less q (omega arith)))
 
   module _ (blocking w : ℕ) where
     pub asked-from-none : AskedFrom costs periods leads 0 blocking w blocking 0

@@ -1,3 +1,6 @@
 -- What is shown of the definitions of response.
 pub mod Claims
+pub mod Least
+pub mod Rounds
+pub mod Solutions
 pub mod TableThree

@@ -5,7 +5,7 @@
 // It goes up from a number that no solution lies below. The right side at such a number is another,
 // since it never falls as w grows; a second bound, `reach`, makes the steps long.
 ghost use mathlib.Core.Path.{_≡_};
-ghost use Prim.Native.Nat.{ℕ, _+_, _*_, _≤_, _<_};
+ghost use Prim.Native.Nat.{ℕ, _+_, _*_, _≤_, max};
 ghost use Rattle.response.specs.Streams.{most};
 ghost use Rattle.response.specs.Waiting.{ceiling, leastFrom};
 ghost use Rattle.response.specs.Recurrence.{claimed, asked, solvesWith, Claim, Ready, ClaimedFrom, NoneBelow};
@@ -103,4 +103,37 @@ fn reach(
         return room;
     }
     (WHOLE * fixed + share) / (WHOLE - share)
+}
+
+fn larger(a: u64, b: u64) -> u64
+    ensures { λ r. ⌜ r ≡ max a b ⌝ }
+{
+    if a < b { b } else { a }
+}
+
+// No claim is left out of what comes before this.
+const ALL: u64 = 4000000;
+
+// The least solution below room; room, where there is none.
+pub(crate) fn least_solution(
+    costs: &Numbers,
+    periods: &Numbers,
+    leads: &Numbers,
+    n: usize,
+    blocking: u64,
+    room: u64,
+) -> u64
+    requires { ⌜ Ready (now costs) (now periods) (now leads) n 0 × (blocking ≤ most) × (room ≤ most) ⌝ }
+    ensures { λ r. ⌜ r ≡ leastFrom 0 room (solvesWith (now (costs .entry)) (now (periods .entry)) (now (leads .entry)) n blocking) ⌝ }
+{
+    let mut w = reach(costs, periods, leads, n, blocking, 0, ALL, room);
+    while w < room {
+        let next = blocking + asked(costs, periods, leads, n, w);
+        if next <= w {
+            return w;
+        }
+        let far = reach(costs, periods, leads, n, blocking, w, next, room);
+        w = larger(next, far);
+    }
+    room
 }
