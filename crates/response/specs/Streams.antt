@@ -19,6 +19,10 @@ mostErrors = 16
 abbrev pub mostInaccessibility : ℕ
 mostInaccessibility = 10000
 
+-- what stands where no record does
+abbrev pub blank : StreamRecord
+blank = record { priority = 0; c = 0; t = 0; d = 0 }
+
 abbrev pub inRange : ℕ → Bool
 inRange n = leb 1 n && leb n most
 

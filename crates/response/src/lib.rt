@@ -3,4 +3,5 @@
 // bit times with the bit as 1.
 mod recurrence;
 pub mod streams;
+mod table;
 pub mod verdict;

@@ -1,4 +1,6 @@
-// The stream records of a list, and the errors that the bus is to bear.
+// The stream records of a list and the errors that the bus is to bear, with their limits.
+ghost use mathlib.Core.Path.{_≡_};
+ghost use Rattle.response.specs.Streams.{inRange, legalRecord, legalErrors};
 
 pub struct StreamRecord {
     // The lower number goes first on the bus.
@@ -7,7 +9,7 @@ pub struct StreamRecord {
     pub c: u32,
     // The shortest time between two requests.
     pub t: u32,
-    // The deadline, counted from the request to the message's last bit.
+    // The deadline, counted from the request to the end of the message.
     pub d: u32,
 }
 
@@ -19,14 +21,32 @@ pub struct Errors {
 }
 
 impl StreamRecord {
-    // Every number of a record is from 1 to this.
+    // Every number of a record, and the period of the errors, is from 1 to this.
     pub const MAX: u32 = 1000000;
+
+    pub fn legal(self) -> bool
+        ensures { λ r. ⌜ r ≡ legalRecord self ⌝ }
+    {
+        in_range(self.priority) & in_range(self.c) & in_range(self.t) & in_range(self.d)
+    }
 }
 
 impl Errors {
     pub const MAX_N: u32 = 16;
 
-    pub const MAX_PERIOD: u32 = 1000000;
-
     pub const MAX_INACCESSIBILITY: u32 = 10000;
+
+    pub fn legal(self) -> bool
+        ensures { λ r. ⌜ r ≡ legalErrors self ⌝ }
+    {
+        (self.n <= Errors::MAX_N)
+            & in_range(self.period)
+            & (self.inaccessibility <= Errors::MAX_INACCESSIBILITY)
+    }
+}
+
+fn in_range(n: u32) -> bool
+    ensures { λ r. ⌜ r ≡ inRange n ⌝ }
+{
+    (1 <= n) & (n <= StreamRecord::MAX)
 }

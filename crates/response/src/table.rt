@@ -1,0 +1,41 @@
+// A list of up to 64 stream records, by value.
+use crate::streams::StreamRecord;
+ghost use mathlib.Core.Path.{_≡_};
+ghost use Prim.Native.Nat.{_≤_};
+ghost use lib.ListN.{take, drop};
+ghost use Rattle.response.specs.Streams.{unused, legalRecords};
+
+pub struct Table {
+    pub streams: [StreamRecord; 64],
+}
+
+// Whether no stream from place `from` on has this priority.
+fn unused(table: Table, from: usize, len: usize, priority: u32) -> bool
+    requires { ⌜ (from ≤ len) × (len ≤ 64) ⌝ }
+    ensures { λ r. ⌜ r ≡ unused priority (drop from (take len (table .streams))) ⌝ }
+{
+    let mut ok = true;
+    let mut k = len;
+    while from < k {
+        k -= 1;
+        let s = table.streams[k];
+        ok = (priority != s.priority) & ok;
+    }
+    ok
+}
+
+// Whether the first len records are within the limits, with all priorities different.
+pub(crate) fn legal_records(table: Table, len: usize) -> bool
+    requires { ⌜ len ≤ 64 ⌝ }
+    ensures { λ r. ⌜ r ≡ legalRecords (take len (table .streams)) ⌝ }
+{
+    let mut ok = true;
+    let mut k = len;
+    while 0 < k {
+        let from = k;
+        k -= 1;
+        let s = table.streams[k];
+        ok = s.legal() & unused(table, from, len, s.priority) & ok;
+    }
+    ok
+}
