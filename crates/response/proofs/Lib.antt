@@ -1,6 +1,7 @@
 -- What is shown of the definitions of response.
 pub mod Claims
 pub mod Least
+pub mod Limits
 pub mod Listed
 pub mod Rounds
 pub mod Solutions

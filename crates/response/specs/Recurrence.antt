@@ -5,8 +5,10 @@ use mathlib.Core.Bool.{Bool}
 use mathlib.Core.List.{List}
 use lib.ListN.{getD}
 use lib.Dec.{eqb}
+use Rattle.response.specs.declared.streams.StreamRecord.{StreamRecord}
+use Rattle.response.specs.declared.streams.Errors.{Errors}
 use Rattle.response.specs.Streams.{most}
-use Rattle.response.specs.Waiting.{ceiling}
+use Rattle.response.specs.Waiting.{ceiling, interference, inaccessible}
 
 -- f 0 + .. + f (n - 1)
 abbrev pub sumTo : (ℕ → ℕ) → ℕ → ℕ
@@ -60,3 +62,8 @@ pub record AskedFrom (costs periods leads : List ℕ) (n blocking w fixed share 
 -- no solution from w on lies below r
 abbrev pub NoneBelow : (costs periods leads : List ℕ) → (n blocking w r : ℕ) → Type 0
 NoneBelow costs periods leads n blocking w r = (v : ℕ) → w ≤ v → v ≡ blocking + asked costs periods leads n v → r ≤ v
+
+-- the first n claims ask for what goes before s
+pub record ClaimsOf (streams : List StreamRecord) (errors : Errors) (s : StreamRecord) (costs periods leads : List ℕ) (n : ℕ) : Type 0 where
+  pub ready : Ready costs periods leads n 0
+  pub ask : (w : ℕ) → asked costs periods leads n w ≡ interference streams s w + inaccessible errors s w

@@ -1,9 +1,11 @@
 -- The stream records and the errors that are within the limits.
-use Prim.Native.Nat.{ℕ}
+use mathlib.Core.Logic.{_≢_}
+use Prim.Native.Nat.{ℕ, _≤_, _<_}
 use mathlib.Core.Bool.{Bool, true, not, _&&_}
 use mathlib.Core.List.{List, [], _∷_}
-use lib.ListN.{length}
+use lib.ListN.{length, getD}
 use lib.Dec.{eqb, leb}
+use Rattle.wire.specs.Settings.{Between}
 use Rattle.response.specs.declared.streams.StreamRecord.{StreamRecord}
 use Rattle.response.specs.declared.streams.Errors.{Errors}
 
@@ -44,3 +46,28 @@ legalRecords (s ∷ streams) = legalRecord s && unused (s .priority) streams && 
 
 unfoldable pub legal : List StreamRecord → Errors → Bool
 legal streams errors = leb (length streams) mostStreams && legalErrors errors && legalRecords streams
+
+-- what `legal` tells (proofs/Limits.antt), in words
+pub record LegalRecord (s : StreamRecord) : Type 0 where
+  pub priority : Between 1 (s .priority) most
+  pub c : Between 1 (s .c) most
+  pub t : Between 1 (s .t) most
+  pub d : Between 1 (s .d) most
+
+pub record LegalErrors (e : Errors) : Type 0 where
+  pub n : e .n ≤ mostErrors
+  pub period : Between 1 (e .period) most
+  pub inaccessibility : e .inaccessibility ≤ mostInaccessibility
+
+-- the record at a place of the list
+abbrev pub at : List StreamRecord → ℕ → StreamRecord
+at streams k = getD streams k blank
+
+pub record LegalRecords (streams : List StreamRecord) : Type 0 where
+  pub each : (k : ℕ) → k < length streams → LegalRecord (at streams k)
+  pub different : (j k : ℕ) → j < k → k < length streams → at streams j .priority ≢ at streams k .priority
+
+pub record Legal (streams : List StreamRecord) (e : Errors) : Type 0 where
+  pub count : length streams ≤ mostStreams
+  pub errors : LegalErrors e
+  pub records : LegalRecords streams

@@ -5,3 +5,4 @@ mod recurrence;
 pub mod streams;
 mod table;
 pub mod verdict;
+mod waiting;

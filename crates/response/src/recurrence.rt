@@ -105,7 +105,7 @@ fn reach(
     (WHOLE * fixed + share) / (WHOLE - share)
 }
 
-fn larger(a: u64, b: u64) -> u64
+pub(crate) fn larger(a: u64, b: u64) -> u64
     ensures { λ r. ⌜ r ≡ max a b ⌝ }
 {
     if a < b { b } else { a }
