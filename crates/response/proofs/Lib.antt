@@ -1,5 +1,6 @@
 -- What is shown of the definitions of response.
 pub mod Claims
+pub mod Gathering
 pub mod Least
 pub mod Limits
 pub mod Listed
