@@ -6,17 +6,17 @@ use Prim.Native.Nat.{ℕ, zero, suc, _+_, _*_, _≤_, _<_}
 use native.Mathlib.Nat.{mul-le-mul, mul-zero, mul-assoc, mul-left-comm, max-le, not-suc-le-zero}
 use native.Mathlib.Omega.{arith}
 use lib.ListN.{length, getD, set, take, replicate, length-set, getD-replicate, length-replicate}
-use lib.Seq.{getD-set-same, getD-set-other, getD-take}
+use lib.Seq.{getD-set-same, getD-set-other}
 use lib.Dec.{eqb}
 use borrow.Author.Count.{below-more}
 use Rattle.response.specs.declared.streams.StreamRecord.{StreamRecord}
 use Rattle.response.specs.declared.streams.Errors.{Errors}
-use Rattle.response.specs.Streams.{most, blank, at, legalRecord, legalErrors, legalRecords, LegalRecord, LegalErrors}
+use Rattle.response.specs.Streams.{most, at, legalRecord, legalErrors, legalRecords, LegalRecord, LegalErrors}
 use Rattle.response.specs.Waiting.{ceiling, goesBefore, blocking, interference, demand, solves, timely}
 use Rattle.response.specs.Recurrence.{sumTo, claimed, claimAt, asked, solvesWith, Claim, ClaimsOf}
 use Rattle.response.proofs.Limits.{record-tells, errors-tell, records-tell}
 use Rattle.response.proofs.Claims.{asked-more}
-use Rattle.response.proofs.Listed.{listed-length}
+use Rattle.response.proofs.Listed.{listed-length, listed-at, legal-listed}
 
 -- ── sums ──
 sum-first : (f : ℕ → ℕ) (n : ℕ) → sumTo f (suc n) ≡ f 0 + sumTo (λ k. f (suc k)) n
@@ -119,12 +119,9 @@ module _ (streams : List StreamRecord) (errors : Errors) (s : StreamRecord) (len
   last-lead : getD leads⁺ len 0 ≡ s .c
   last-lead = getD-set-same (replicate 65 1) len (s .c) 0 (omega arith)
 
-  legal-at : (j : ℕ) → j < len → LegalRecord (at streams j)
-  legal-at j h = rw (← getD-take len streams j blank h) (records-tell (take len streams) .says legal-streams .each j (omega (arith, listed-length streams len fits)))
-
   stream-claim : (j : ℕ) → j < len → Claim (getD costs⁺ j 0) (getD periods⁺ j 0) (getD leads⁺ j 0)
   stream-claim j h =
-      let r = legal-at j h in
+      let r = legal-listed streams len fits legal-streams j h in
       rw (cost-at j h, period-at j h, lead-at j h)
       (record {
         cost-most = cost-most (goesBefore (at streams j) s) (at streams j .c) (r .c .1);
@@ -150,7 +147,7 @@ module _ (streams : List StreamRecord) (errors : Errors) (s : StreamRecord) (len
   stream-asks : (w j : ℕ) → j < len → claimAt costs⁺ periods⁺ leads⁺ w j ≡ asks streams s w (at (take len streams) j)
   unfolding asks
   stream-asks w j h =
-      rw (cost-at j h, period-at j h, lead-at j h, getD-take len streams j blank h) (masked streams s (goesBefore (at streams j) s) _ _)
+      rw (cost-at j h, period-at j h, lead-at j h, listed-at streams len fits j h) (masked streams s (goesBefore (at streams j) s) _ _)
 
   streams-ask : (w : ℕ) → asked costs⁺ periods⁺ leads⁺ len w ≡ interference (take len streams) s w
   unfolding asked

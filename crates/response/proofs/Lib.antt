@@ -6,4 +6,6 @@ pub mod Limits
 pub mod Listed
 pub mod Rounds
 pub mod Solutions
+pub mod Solving
 pub mod TableThree
+pub mod Writing

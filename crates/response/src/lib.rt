@@ -2,6 +2,7 @@
 // equations (2) to (4) and (8) to (10) of Reliable Real-Time Communication in CAN Networks, in whole
 // bit times with the bit as 1.
 mod recurrence;
+mod sheet;
 pub mod streams;
 mod table;
 pub mod verdict;
