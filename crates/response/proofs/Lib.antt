@@ -1,4 +1,5 @@
 -- What is shown of the definitions of response.
+pub mod Answering
 pub mod Claims
 pub mod Gathering
 pub mod Least

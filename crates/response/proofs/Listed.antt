@@ -1,4 +1,4 @@
--- The first records of a table of 64, taken one by one.
+-- The first records of a table, taken one by one.
 use mathlib.Core.Path.{_≡_, refl, sym, ap, _∙_}
 use mathlib.Core.Bool.{true}
 use mathlib.Core.List.{List, [], _∷_, map}

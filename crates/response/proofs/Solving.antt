@@ -1,5 +1,6 @@
 -- The streams of a list solved one by one, up to the first that can be late.
 use mathlib.Core.Path.{_≡_, refl, sym, ap, _∙_}
+use mathlib.Core.Bool.{Bool, true, false, cond}
 use mathlib.Core.List.{List, [], _∷_, _++_, append-assoc}
 use Prim.Native.Nat.{ℕ, suc, _+_, _*_, _≤_, _<_}
 use native.Mathlib.Nat.{zero-add}
@@ -12,7 +13,7 @@ use Rattle.response.specs.declared.streams.StreamRecord.{StreamRecord}
 use Rattle.response.specs.declared.streams.Errors.{Errors}
 use Rattle.response.specs.Streams.{blank, at}
 use Rattle.response.specs.Waiting.{timely, waiting, response}
-use Rattle.response.specs.Sheet.{firstLate, times}
+use Rattle.response.specs.Sheet.{isTimely, firstLate, times}
 
 -- the first i streams keep their deadlines, and their times are in place
 pub record SolvedTo (streams : List StreamRecord) (errors : Errors) (i : ℕ) (numbers : List ℕ) : Type 0 where
@@ -30,6 +31,15 @@ two-stored : (l : List ℕ) (n a b : ℕ) → n + 1 < length l → take (n + 2) 
 two-stored l n a b room =
     let twice : n + 2 ≡ suc (n + 1) = omega arith in
     rw (twice, take-suc-set (set l n a) (n + 1) b (lt-length-set l n a room), add-one, take-suc-set l n a (omega arith), append-assoc)
+
+pub late-most : (all listed : List StreamRecord) (errors : Errors) → firstLate all listed errors ≤ length listed
+unfolding firstLate
+late-most all [] errors = omega arith
+late-most all (s ∷ listed) errors = by-test (isTimely all errors s) (late-most all listed errors)
+  where
+    by-test : (b : Bool) → firstLate all listed errors ≤ length listed → cond b (suc (firstLate all listed errors)) 0 ≤ suc (length listed)
+    by-test true h = omega arith
+    by-test false h = omega arith
 
 module _ (streams : List StreamRecord) (errors : Errors) where
   pub solved-none : SolvedTo streams errors 0 (replicate 128 0)

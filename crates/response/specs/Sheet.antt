@@ -1,9 +1,11 @@
 -- What is said of a list of streams, and what is written for it.
+use mathlib.Core.Path.{_≡_}
 use Prim.Native.Nat.{ℕ, suc, _*_}
 use mathlib.Core.Bool.{Bool, cond, not}
 use mathlib.Core.List.{List, [], _∷_}
 use lib.ListN.{length}
 use lib.Dec.{ltb}
+use Rattle.wire.specs.Delivered.{over}
 use Rattle.response.specs.declared.streams.StreamRecord.{StreamRecord}
 use Rattle.response.specs.declared.streams.Errors.{Errors}
 use Rattle.response.specs.declared.verdict.Verdict.{Verdict}
@@ -44,3 +46,8 @@ ifDone (Late at) numbers = []
 
 unfoldable pub written : List StreamRecord → Errors → (room : ℕ) → List ℕ
 written streams errors room = ifDone (verdict streams errors room) (times streams streams errors)
+
+-- what is answered for a list of streams, and what is then in the lent output
+pub record Answers (streams : List StreamRecord) (errors : Errors) (out : List ℕ) (answer : Verdict) (after : List ℕ) : Type 0 where
+  pub says : answer ≡ verdict streams errors (length out)
+  pub leaves : after ≡ over (written streams errors (length out)) out

@@ -6,14 +6,12 @@ use crate::verdict::Verdict;
 use crate::waiting::timely;
 use crate::waiting::waiting;
 ghost use mathlib.Core.Path.{_≡_};
-ghost use mathlib.Core.Bool.{cond, true};
-ghost use mathlib.Core.List.{[]};
+ghost use mathlib.Core.Bool.{true};
 ghost use Prim.Native.Nat.{_*_, _≤_};
 ghost use lib.ListN.{length, take};
-ghost use lib.Dec.{leb};
 ghost use Rattle.wire.specs.Delivered.{over};
 ghost use Rattle.response.specs.Streams.{legalErrors, legalRecords};
-ghost use Rattle.response.specs.Sheet.{firstLate, times, verdict, written};
+ghost use Rattle.response.specs.Sheet.{firstLate, times, Answers};
 
 // Two numbers for each stream.
 const NUMBERS: usize = 128;
@@ -58,10 +56,9 @@ fn write(numbers: [u32; NUMBERS], n: usize, out: &mut [u32])
     }
 }
 
-// The sheet of the first len streams; a table has no more than 64.
+// The sheet of the first len streams of a table.
 pub(crate) fn sheet_of_table(table: Table, len: usize, errors: Errors, out: &mut [u32]) -> Verdict
-    ensures { λ r. ⌜ (r ≡ cond (leb len 64) (verdict (take len (table .streams)) errors (length (now (out .entry)))) Verdict.BadStream)
-        × (now (out .exit) ≡ over (cond (leb len 64) (written (take len (table .streams)) errors (length (now (out .entry)))) []) (now (out .entry))) ⌝ }
+    ensures { λ r. ⌜ Answers (take len (table .streams)) errors (now (out .entry)) r (now (out .exit)) ⌝ }
 {
     if 64 < len {
         return Verdict::BadStream;

@@ -1,12 +1,14 @@
-// A list of up to 64 stream records, by value.
+// A list of stream records, by value.
 use crate::streams::StreamRecord;
 ghost use mathlib.Core.Path.{_≡_};
 ghost use Prim.Native.Nat.{_≤_};
 ghost use lib.ListN.{take, drop};
 ghost use Rattle.response.specs.Streams.{unused, legalRecords};
 
+// The list's first records. There is one place more than a list may have streams, so that too long
+// a list is still too long here.
 pub struct Table {
-    pub streams: [StreamRecord; 64],
+    pub streams: [StreamRecord; 65],
 }
 
 // Whether no stream from place `from` on has this priority.

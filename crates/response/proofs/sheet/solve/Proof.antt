@@ -24,8 +24,8 @@ Inv-loop len errors table times₀ i₀ times i = (i ≤ len) × SolvedTo (take 
 abbrev μ-loop : tie.MeasureT-loop
 μ-loop len errors table times₀ i₀ times i = len - i
 
--- the table has 64 places
-long : (c : tie.Start Inv-loop μ-loop) → length (c .args .t1 .streams) ≡ 64
+-- the table has 65 places
+long : (c : tie.Start Inv-loop μ-loop) → length (c .args .t1 .streams) ≡ 65
 long c = search (needs, length-of-mapped)
 
 

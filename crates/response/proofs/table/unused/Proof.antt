@@ -16,8 +16,8 @@ Inv-loop from len priority table ok₀ k₀ ok k = (from ≤ k) × (k ≤ len) �
 abbrev μ-loop : tie.MeasureT-loop
 μ-loop from len priority table ok₀ k₀ ok k = k - from
 
--- the table has 64 places
-long : (c : tie.Start Inv-loop μ-loop) → length (c .args .t1 .streams) ≡ 64
+-- the table has 65 places
+long : (c : tie.Start Inv-loop μ-loop) → length (c .args .t1 .streams) ≡ 65
 long c = search (needs, length-of-mapped)
 
 loop-holds : tie.Need-loop-holds Inv-loop μ-loop

@@ -18,8 +18,8 @@ Inv-loop len s table longest₀ k₀ longest k = (k ≤ len) × (longest ≡ blo
 abbrev μ-loop : tie.MeasureT-loop
 μ-loop len s table longest₀ k₀ longest k = k
 
--- the table has 64 places
-long : (c : tie.Start Inv-loop μ-loop) → length (c .args .t1 .streams) ≡ 64
+-- the table has 65 places
+long : (c : tie.Start Inv-loop μ-loop) → length (c .args .t1 .streams) ≡ 65
 long c = search (needs, length-of-mapped)
 
 loop-holds : tie.Need-loop-holds Inv-loop μ-loop
