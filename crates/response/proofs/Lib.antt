@@ -8,5 +8,6 @@ pub mod Listed
 pub mod Rounds
 pub mod Solutions
 pub mod Solving
+pub mod Tabled
 pub mod TableThree
 pub mod Writing

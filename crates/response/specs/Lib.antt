@@ -3,3 +3,4 @@ pub mod Streams
 pub mod Waiting
 pub mod Recurrence
 pub mod Sheet
+pub mod Tables

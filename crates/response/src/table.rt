@@ -4,11 +4,39 @@ ghost use mathlib.Core.Path.{_≡_};
 ghost use Prim.Native.Nat.{_≤_};
 ghost use lib.ListN.{take, drop};
 ghost use Rattle.response.specs.Streams.{unused, legalRecords};
+ghost use Rattle.response.specs.Tables.{emptyTable, withStream};
 
 // The list's first records. There is one place more than a list may have streams, so that too long
 // a list is still too long here.
 pub struct Table {
     pub streams: [StreamRecord; 65],
+}
+
+impl Table {
+    pub fn empty() -> Table
+        ensures { λ r. ⌜ r ≡ emptyTable ⌝ }
+    {
+        Table {
+            streams: [StreamRecord {
+                priority: 0,
+                c: 0,
+                t: 0,
+                d: 0,
+            }; 65],
+        }
+    }
+}
+
+// The table with a record put at a place; past the last place it is the same.
+pub fn with_stream(table: Table, i: usize, s: StreamRecord) -> Table
+    ensures { λ r. ⌜ r ≡ withStream table i s ⌝ }
+{
+    let mut table = table;
+    if i < 65 {
+        table.streams[i] = s;
+        return table;
+    }
+    table
 }
 
 // Whether no stream from place `from` on has this priority.
