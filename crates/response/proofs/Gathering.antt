@@ -163,8 +163,8 @@ module _ (streams : List StreamRecord) (errors : Errors) (s : StreamRecord) (len
       waiting = omega arith;
     };
     ask = λ w.
-      asked-more costs⁺ periods⁺ leads⁺ len w ∙
-      (rw (streams-ask w, last-cost, last-period, last-lead, mul-assoc, mul-left-comm (ceiling (w + s .c) (errors .period))));
+        asked-more costs⁺ periods⁺ leads⁺ len w ∙
+        (rw (streams-ask w, last-cost, last-period, last-lead, mul-assoc, mul-left-comm (ceiling (w + s .c) (errors .period))));
   }
 
 -- ── what the recurrence is called with ──

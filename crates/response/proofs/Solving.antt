@@ -62,9 +62,9 @@ module _ (streams : List StreamRecord) (errors : Errors) where
       late = solved .late ∙ (rw (rest, lt-ltb _ _ keeps) (omega arith));
       long = simp length-set (solved .long);
       are =
-        ap (λ (n : ℕ). take n (set (set numbers (2 * i) (waiting streams errors this)) (2 * i + 1) (response streams errors this))) (twice i)
-        ∙ two-stored numbers (2 * i) _ _ (omega (arith, solved .long))
-        ∙ (rw (solved .are, add-one, take-suc streams i blank less, here) (sym (times-append streams (take i streams) (this ∷ []) errors)));
+          ap (λ (n : ℕ). take n (set (set numbers (2 * i) (waiting streams errors this)) (2 * i + 1) (response streams errors this))) (twice i)
+          ∙ two-stored numbers (2 * i) _ _ (omega (arith, solved .long))
+          ∙ (rw (solved .are, add-one, take-suc streams i blank less, here) (sym (times-append streams (take i streams) (this ∷ []) errors)));
     }
       where
         twice : (n : ℕ) → 2 * (n + 1) ≡ 2 * n + 2

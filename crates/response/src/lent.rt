@@ -7,7 +7,7 @@ use crate::table::Table;
 use crate::table::with_stream;
 use crate::verdict::Verdict;
 ghost use mathlib.Core.Path.{_≡_};
-ghost use Prim.Native.Nat.{_<_};
+ghost use Prim.Native.Nat.{_≤_, _<_};
 ghost use lib.ListN.{length, take};
 ghost use Rattle.response.specs.Streams.{at};
 ghost use Rattle.response.specs.Sheet.{Answers};
@@ -42,4 +42,28 @@ pub fn solve(streams: &[StreamRecord], errors: Errors, out: &mut [u32]) -> Verdi
     let len = streams.len();
     let table = table_of(streams);
     sheet_of_table(table, len, errors, out)
+}
+
+// Lends the first n records of an array.
+fn lend(streams: [StreamRecord; 65], n: usize, errors: Errors, out: &mut [u32]) -> Verdict
+    requires { ⌜ n ≤ 65 ⌝ }
+    ensures { λ r. ⌜ Answers (take n streams) errors (now (out .entry)) r (now (out .exit)) ⌝ }
+{
+    solve(&streams[..n], errors, out)
+}
+
+// The same of the first len records of an array: who calls this function needs no reference to a
+// struct. There is one place more than a list may have streams, so that too long a list can be said.
+pub fn solve_array(
+    streams: [StreamRecord; 65],
+    len: usize,
+    errors: Errors,
+    out: &mut [u32],
+) -> Verdict
+    ensures { λ r. ⌜ Answers (take len streams) errors (now (out .entry)) r (now (out .exit)) ⌝ }
+{
+    if len <= 65 {
+        return lend(streams, len, errors, out);
+    }
+    lend(streams, 65, errors, out)
 }

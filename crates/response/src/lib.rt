@@ -5,6 +5,6 @@ pub mod lent;
 mod recurrence;
 mod sheet;
 pub mod streams;
-pub mod table;
+mod table;
 pub mod verdict;
 mod waiting;

@@ -13,7 +13,7 @@ pub struct Table {
 }
 
 impl Table {
-    pub fn empty() -> Table
+    pub(crate) fn empty() -> Table
         ensures { λ r. ⌜ r ≡ emptyTable ⌝ }
     {
         Table {
@@ -28,7 +28,7 @@ impl Table {
 }
 
 // The table with a record put at a place; past the last place it is the same.
-pub fn with_stream(table: Table, i: usize, s: StreamRecord) -> Table
+pub(crate) fn with_stream(table: Table, i: usize, s: StreamRecord) -> Table
     ensures { λ r. ⌜ r ≡ withStream table i s ⌝ }
 {
     let mut table = table;

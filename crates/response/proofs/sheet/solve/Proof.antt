@@ -28,7 +28,6 @@ abbrev μ-loop : tie.MeasureT-loop
 long : (c : tie.Start Inv-loop μ-loop) → length (c .args .t1 .streams) ≡ 65
 long c = search (needs, length-of-mapped)
 
-
 fits : (c : tie.Start Inv-loop μ-loop) → c .args .len ≤ length (c .args .t1 .streams)
 fits c = omega (arith, long c, c .pre .0)
 
@@ -42,7 +41,6 @@ same-place c = listed-at _ _ (fits (c .before .before)) _ (c .loop-test .taken)
 listed : (c : tie.In-loop Inv-loop μ-loop) → c .before .loop .i < length (take (c .before .before .args .len) (c .before .before .args .t1 .streams))
 listed c =
     let start = c .before .before in omega (arith, listed-length (start .args .t1 .streams) (start .args .len) (fits start), c .loop-test .taken)
-
 
 in-time : (c : tie.Else1 Inv-loop μ-loop) → c .before .before .waiting .result < most
 in-time c =
@@ -105,9 +103,11 @@ loop-again : tie.Need-loop-again Inv-loop μ-loop
 loop-again c =
     let l = c .before .before .before .before .before .before in
     let turn = c .before .before .before .before .before in
-    rw (c .before .before .before .waiting .ensures)
-    (omega arith, solved-more _ _ (l .loop .inv .1) (listed turn) (same-place turn) (omega (arith, l .before .pre .0))
-    (rw (c .before .before .before .waiting .ensures, c .before .before .timely .ensures) at (c .before .if1 .left)))
+    rw (c .before .before .before .waiting .ensures) (
+      omega arith,
+      solved-more _ _ (l .loop .inv .1) (listed turn) (same-place turn) (omega (arith, l .before .pre .0))
+          (rw (c .before .before .before .waiting .ensures, c .before .before .timely .ensures) at (c .before .if1 .left)),
+    )
 
 returns-2 : tie.Need-returns-2 Inv-loop μ-loop
 returns-2 c =

@@ -48,9 +48,11 @@ loop-less c = search needs
 
 loop-again : tie.Need-loop-again Inv-loop μ-loop
 loop-again c =
-    let start = c .before .before in
-    (omega arith, rw (c .before .loop .inv .1)
-    (one-written (start .args .t1) (start .args .out .now) (c .before .loop .k) (omega (arith, many start)) (omega (arith, start .pre .1))))
+    let start = c .before .before in (
+      omega arith,
+      rw (c .before .loop .inv .1)
+          (one-written (start .args .t1) (start .args .out .now) (c .before .loop .k) (omega (arith, many start)) (omega (arith, start .pre .1))),
+    )
 
 same-length : tie.Need-same-length Inv-loop μ-loop
 same-length c = kept (c .before)
