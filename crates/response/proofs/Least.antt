@@ -26,3 +26,29 @@ module _ (test : ℕ → Bool) where
           → cond (test first) first (leastFrom (suc first) count test) ≡ w
       by-place true e later = let less : first < w = ltb-true first w e in rw (none first (omega arith) less) (later less)
       by-place false e later = let here : first ≡ w = omega (arith, ltb-false first w e) in rw (here, found)
+
+  -- what the least number tells
+  pub record Tested (first count w : ℕ) : Type 0 where
+    pub low : first ≤ w
+    pub high : w ≤ first + count
+    pub none-before : (v : ℕ) → first ≤ v → v < w → test v ≡ false
+    pub passes : w < first + count → test w ≡ true
+
+  pub least-tested : (first count : ℕ) → Tested first count (leastFrom first count test)
+  unfolding leastFrom
+  least-tested first zero = record { low = omega arith; high = omega arith; none-before = λ v l h. absurd (omega arith); passes = λ h. absurd (omega arith) }
+  least-tested first (suc count) = by-test (test first) refl (least-tested (suc first) count)
+    where
+      by-test : (b : Bool) → test first ≡ b → Tested (suc first) count (leastFrom (suc first) count test)
+          → Tested first (suc count) (cond b first (leastFrom (suc first) count test))
+      by-test true e later = record { low = omega arith; high = omega arith; none-before = λ v l h. absurd (omega arith); passes = λ h. e }
+      by-test false e later = record {
+        low = omega (arith, later .low);
+        high = omega (arith, later .high);
+        none-before = λ v l h. by-place v l h (ltb first v) refl;
+        passes = λ h. later .passes (omega arith);
+      }
+        where
+          by-place : (v : ℕ) → first ≤ v → v < leastFrom (suc first) count test → (b : Bool) → ltb first v ≡ b → test v ≡ false
+          by-place v l h true e₁ = later .none-before v (ltb-true first v e₁) h
+          by-place v l h false e₁ = let here : v ≡ first = omega (arith, ltb-false first v e₁) in rw here e

@@ -2,6 +2,7 @@
 pub mod Answering
 pub mod Claims
 pub mod Gathering
+pub mod InWords
 pub mod Least
 pub mod Limits
 pub mod Listed

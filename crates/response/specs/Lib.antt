@@ -3,4 +3,5 @@ pub mod Streams
 pub mod Waiting
 pub mod Recurrence
 pub mod Sheet
+pub mod InWords
 pub mod Tables
