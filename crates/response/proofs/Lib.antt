@@ -11,4 +11,5 @@ pub mod Solutions
 pub mod Solving
 pub mod Tabled
 pub mod TableThree
+pub mod Unique
 pub mod Writing
