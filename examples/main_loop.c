@@ -10,7 +10,8 @@
 enum { FILES = 5, STATE = 6, TURNS = 60 };
 
 static struct kosmydore_node node;
-static uint32_t tally[13];
+static const uint32_t numbers[] = KOSMYDORE_TALLY_NUMBERS;
+static uint32_t tally[KOSMYDORE_TALLY_SIZE];
 static bool wanted;
 static uint8_t state;
 
@@ -55,14 +56,19 @@ static void deliver(const uint8_t *out, size_t written)
 static uint32_t after(const struct kosmydore_node *then, uint32_t reply)
 {
     node = *then;
-    tally[reply]++;
+    for (int i = 0; i < KOSMYDORE_TALLY_SIZE; i++)
+        if (numbers[i] == reply)
+            tally[i]++;
     return reply;
 }
 
 int main(void)
 {
     node = kosmydore_fresh();
-    const struct kosmydore_settings files = {6, 6, 7, 14, 0, 2}, states = {8, 0, 0, 8, 1, 1};
+    const struct kosmydore_settings files = {.role = KOSMYDORE_RECEIVE, .class_ = KOSMYDORE_TWO_MESSAGE,
+                                             .data_reach = 6, .confirm_delay = 6, .abort_reach = 7, .deliver_delay = 14};
+    const struct kosmydore_settings states = {.role = KOSMYDORE_SEND, .class_ = KOSMYDORE_IMD,
+                                              .data_reach = 8, .deliver_delay = 8};
     struct kosmydore_answered set = kosmydore_set_up(node, FILES, files);
     after(&set.node, set.reply);
     set = kosmydore_set_up(node, STATE, states);
@@ -92,7 +98,7 @@ int main(void)
         }
     }
     printf("tally");
-    for (int i = 0; i < 13; i++)
+    for (int i = 0; i < KOSMYDORE_TALLY_SIZE; i++)
         printf(" %" PRIu32, tally[i]);
     printf("\n");
     return 0;

@@ -22,7 +22,7 @@
 extern "C" {
 #endif
 
-/* The replies; docs/INTEGRATION.md says what to do with each. */
+/* The replies; docs/REPLIES.md says when each is given, docs/INTEGRATION.md what to do with it. */
 #define KOSMYDORE_DONE UINT32_C(0)
 #define KOSMYDORE_BAD_SETTINGS UINT32_C(1)
 #define KOSMYDORE_TABLE_FULL UINT32_C(2)
@@ -37,11 +37,42 @@ extern "C" {
 #define KOSMYDORE_SHORT_OUTPUT UINT32_C(11)
 #define KOSMYDORE_NOTHING UINT32_C(12)
 
+/*
+ * A tally: how many replies of the node's calls are counted, and their numbers in the tally's order.
+ * Reply numbers need not follow each other without a gap: do not take a number for a place.
+ */
+#define KOSMYDORE_TALLY_SIZE 13
+#define KOSMYDORE_TALLY_NUMBERS {0, 1, 2, 3, 4, 5, 6, 7, 8, 9, 10, 11, 12}
+
+/* Roles. */
+#define KOSMYDORE_RECEIVE 0
+#define KOSMYDORE_SEND 1
+
+/* Classes. */
+#define KOSMYDORE_PLAIN 0
+#define KOSMYDORE_IMD 1
+#define KOSMYDORE_TWO_MESSAGE 2
+
+/* Codes: the two lowest bits of a bus identifier. */
+#define KOSMYDORE_CODE_DATA UINT32_C(0)
+#define KOSMYDORE_CODE_CONFIRMATION UINT32_C(1)
+#define KOSMYDORE_CODE_ABORT UINT32_C(2)
+#define KOSMYDORE_CODE_PLAIN UINT32_C(3)
+
 /* The highest stream number, bus identifier, code and payload length. */
 #define KOSMYDORE_MAX_STREAM UINT32_C(134217727)
 #define KOSMYDORE_MAX_BUS_ID UINT32_C(536870911)
 #define KOSMYDORE_MAX_CODE UINT32_C(3)
 #define KOSMYDORE_MAX_PAYLOAD UINT32_C(8)
+
+/* The slots of a node, and the bytes that it takes. */
+#define KOSMYDORE_SLOTS 32
+#define KOSMYDORE_NODE_SIZE 1028
+
+/* The bytes that the output of each call must have at least. */
+#define KOSMYDORE_HEAR_OUTPUT 16
+#define KOSMYDORE_TICK_OUTPUT 512
+#define KOSMYDORE_NEXT_FRAME_OUTPUT 8
 
 /*
  * The reply to joining a stream and a code (0 data, 1 confirmation, 2 abort, 3 plain):
@@ -99,15 +130,17 @@ uint32_t kosmydore_record_length(uint32_t payload_length);
 
 /*
  * The node. Its fields are no one's business but the calls': begin with kosmydore_fresh, and hand on
- * what the last call answered. (A bool that is neither 0 nor 1 is not a node.)
+ * what the last call answered. (A bool that is neither 0 nor 1 is not a node.) Between the fields
+ * there is padding, whose bytes no call promises anything of: do not compare nodes, or take a sum
+ * over them, byte by byte.
  */
 struct kosmydore_settings {
+    uint8_t role;
+    uint8_t class_;
     uint16_t data_reach;
     uint16_t confirm_delay;
     uint16_t abort_reach;
     uint16_t deliver_delay;
-    uint8_t role;
-    uint8_t class_;
 };
 
 struct kosmydore_message {
@@ -133,7 +166,7 @@ struct kosmydore_slot {
 };
 
 struct kosmydore_node {
-    struct kosmydore_slot slots[32];
+    struct kosmydore_slot slots[KOSMYDORE_SLOTS];
     uint16_t counter;
 };
 
@@ -166,22 +199,25 @@ struct kosmydore_answered kosmydore_set_up(struct kosmydore_node node, uint32_t 
                                            struct kosmydore_settings settings);
 
 /*
- * Takes in a frame that the controller received; the output holds at least 16 bytes. A payload or an
- * output is the address of its first byte and its length; the two do not overlap. An address is not
- * null, also where the length is 0.
+ * Takes in a frame that the controller received; the output holds KOSMYDORE_HEAR_OUTPUT bytes or
+ * more. A payload or an output is the address of its first byte and its length; the two do not
+ * overlap. An address is not null, also where the length is 0.
  */
 struct kosmydore_delivered kosmydore_hear(struct kosmydore_node node, uint32_t id, uint8_t dlc,
                                           const uint8_t *payload, size_t payload_length,
                                           uint8_t *output, size_t output_length);
 
-/* Moves the counter by one; the output holds at least 512 bytes. */
+/* Moves the counter by one; the output holds KOSMYDORE_TICK_OUTPUT bytes or more. */
 struct kosmydore_delivered kosmydore_tick(struct kosmydore_node node, uint8_t *output, size_t output_length);
 
 /* Takes a message to send on one of the node's own streams. */
 struct kosmydore_answered kosmydore_request(struct kosmydore_node node, uint32_t stream,
                                             const uint8_t *payload, size_t payload_length);
 
-/* Gives out the pending frame with the lowest identifier; the output holds at least 8 bytes. */
+/*
+ * Gives out the pending frame with the lowest identifier; the output holds
+ * KOSMYDORE_NEXT_FRAME_OUTPUT bytes or more.
+ */
 struct kosmydore_given kosmydore_next_frame(struct kosmydore_node node, uint8_t *output, size_t output_length);
 
 #ifdef __cplusplus

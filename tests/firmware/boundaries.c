@@ -164,6 +164,44 @@ static void record_length(void)
     SAME(kosmydore_record_length(TOP), 0);
 }
 
+/* The node of the header is the library's: its size, its slots, the order of its settings and the outputs that its calls ask for. */
+static void node(void)
+{
+    const uint32_t numbers[] = KOSMYDORE_TALLY_NUMBERS;
+    uint8_t output[KOSMYDORE_TICK_OUTPUT];
+    struct kosmydore_settings settings;
+    struct kosmydore_answered set;
+    uint32_t stream;
+
+    SAME(sizeof numbers / sizeof numbers[0], KOSMYDORE_TALLY_SIZE);
+    SAME(sizeof(struct kosmydore_node), KOSMYDORE_NODE_SIZE);
+    settings.role = KOSMYDORE_SEND;
+    settings.class_ = KOSMYDORE_TWO_MESSAGE;
+    settings.data_reach = 2;
+    settings.confirm_delay = 3;
+    settings.abort_reach = 4;
+    settings.deliver_delay = 7;
+    SAME(kosmydore_set_up(kosmydore_fresh(), 5, settings).reply, KOSMYDORE_BAD_SETTINGS);
+    settings.deliver_delay = 8;
+    set = kosmydore_set_up(kosmydore_fresh(), 5, settings);
+    SAME(set.reply, KOSMYDORE_DONE);
+    SAME(set.node.slots[0].settings.role, KOSMYDORE_SEND);
+    SAME(set.node.slots[0].settings.deliver_delay, 8);
+    SAME(kosmydore_request(set.node, 5, output, 0).reply, KOSMYDORE_DONE);
+    SAME(kosmydore_hear(set.node, 20, 0, output, 0, output + 8, KOSMYDORE_HEAR_OUTPUT).reply, KOSMYDORE_NOT_MINE);
+    SAME(kosmydore_hear(set.node, 20, 0, output, 0, output + 8, KOSMYDORE_HEAR_OUTPUT - 1).reply, KOSMYDORE_SHORT_OUTPUT);
+    SAME(kosmydore_tick(set.node, output, KOSMYDORE_TICK_OUTPUT).reply, KOSMYDORE_DONE);
+    SAME(kosmydore_tick(set.node, output, KOSMYDORE_TICK_OUTPUT - 1).reply, KOSMYDORE_SHORT_OUTPUT);
+    SAME(kosmydore_next_frame(set.node, output, KOSMYDORE_NEXT_FRAME_OUTPUT).reply, KOSMYDORE_NOTHING);
+    SAME(kosmydore_next_frame(set.node, output, KOSMYDORE_NEXT_FRAME_OUTPUT - 1).reply, KOSMYDORE_SHORT_OUTPUT);
+    set.node = kosmydore_fresh();
+    for (stream = 0; stream < KOSMYDORE_SLOTS; stream++) {
+        set = kosmydore_set_up(set.node, stream, settings);
+        SAME(set.reply, KOSMYDORE_DONE);
+    }
+    SAME(kosmydore_set_up(set.node, stream, settings).reply, KOSMYDORE_TABLE_FULL);
+}
+
 int main(void)
 {
     identifiers();
@@ -172,6 +210,7 @@ int main(void)
     imd();
     two_message();
     record_length();
+    node();
     printf("%d passed, %d failed\n", passed, failed);
     return failed == 0 ? 0 : 1;
 }

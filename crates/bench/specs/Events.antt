@@ -149,6 +149,8 @@ abbrev pub sentOnce : Moment → Bool → Frame → Frame
 sentOnce t full f =
     record { since = f .since; given = f .given; id = f .id; payload = f .payload; sendings = sentAgain t full (f .sendings) }
 
+-- Hearing asks no clock, nor does a request or giving out: of the five calls only a tick does (`outcome` in node/specs/Calls.antt). So
+-- this one definition serves modules of either clock, and only `ticked` takes the clock as an argument.
 abbrev pub heard : Frame → Module → Outcome
 heard f m = call unbounded (hear (f .id) (length (f .payload)) (f .payload) lent) m
 

@@ -4,4 +4,5 @@ pub mod SetUp
 pub mod Events
 pub mod Rules
 pub mod Demands
-pub mod InCode
+pub mod MomentTen
+pub mod Dummies

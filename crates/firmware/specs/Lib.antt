@@ -1,3 +1,3 @@
--- The definitions that the promises of firmware cite, beside those of wire.
+-- The definitions that the promises of firmware cite, beside those of wire and node.
 pub mod Boundary
 pub mod Answers

@@ -1,5 +1,5 @@
 // The state that the lines drive, and how an answer is written. Each part of an answer makes room for itself.
-use bench::Bench;
+use bench_in_code::Bench;
 use text::Buffer;
 use text::output;
 use wire::reply::Reply;

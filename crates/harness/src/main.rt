@@ -1,7 +1,7 @@
 // Runs a bench history by lines of text, one answer line for each line that is not skipped.
 use crate::answers::State;
 use crate::lines::Route;
-use bench::outbox::Frames;
+use bench_in_code::outbox::Frames;
 use text::input;
 use text::input::Input;
 

@@ -5,9 +5,9 @@ use crate::answers::State;
 use crate::lines::Verb;
 use crate::numbers;
 use crate::records;
-use bench::outbox::Frame;
-use bench::outbox::Frames;
-use bench::parts::Said;
+use bench_in_code::outbox::Frame;
+use bench_in_code::outbox::Frames;
+use bench_in_code::stations::Said;
 use text::Buffer;
 use text::words;
 

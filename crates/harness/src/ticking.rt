@@ -4,7 +4,7 @@ use crate::answers::Answer;
 use crate::answers::State;
 use crate::records;
 use crate::records::Place;
-use bench::parts::Said;
+use bench_in_code::stations::Said;
 use text::Buffer;
 use text::words;
 

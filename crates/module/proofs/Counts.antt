@@ -1,118 +1,130 @@
--- After any list of replies, each count of a tally that began at zero is the number of such replies, cut at the most.
-use Prim.Native.Nat.{ℕ, zero, suc, _+_, _≤_, _<_}
-use native.Mathlib.Nat.{min-eq-left, min-eq-right}
-use native.Mathlib.Omega.{arith}
+-- After any list of replies, the tally that began at zero is the tally of that list: at each place the number of such replies, cut at the most.
 use mathlib.Core.Path.{_≡_, refl, sym, ap, _∙_}
-use mathlib.Core.Bool.{Bool, true, false, cond}
-use mathlib.Core.List.{List, [], _∷_}
-use lib.ListN.{length, getD, set, replicate, length-set}
-use lib.Seq.{getD-set-same, getD-set-other}
+use mathlib.Core.Bool.{Bool, true, false, cond, _&&_, false≢true}
+use mathlib.Core.Logic.{_≢_}
+use mathlib.Core.List.{List, [], _∷_, _++_, map, append-nil, append-assoc}
+use Prim.Native.Nat.{ℕ, zero, suc, _+_, _≤_, _<_}
+use native.Mathlib.Nat.{min-eq-right}
+use native.Mathlib.Omega.{arith}
+use lib.ListN.{length, getD, set}
 use lib.Dec.{eqb, ltb}
-use borrow.Author.Tests.{ltb-true, ltb-false, eqb-true, eqb-false}
+use borrow.Author.Tests.{ltb-true, ltb-false, eqb-true, eqb-false, eq-eqb, ne-eqb}
 use Rattle.wire.specs.declared.reply.Reply.{Reply}
-use Rattle.wire.specs.Replies.{numberOf, replyCount}
-use Rattle.wire.proofs.Replies.{number-counted}
+use Rattle.wire.specs.Replies.{numberOf}
 use Rattle.module.specs.declared.tally.Tally.{Tally}
-use Rattle.module.specs.Tallies.{most, none, countOf, tallied, talliedAll, occurrences, capped}
+use Rattle.module.specs.Tallies.{counted, position, placeOf, most, none, countOf, tallied, talliedAll, occurrences, capped, tallyOf}
+use Rattle.module.proofs.Places.{has-place, own-number}
 
--- a place for each reply number, and no count above the most
-pub record Sound (t : Tally) : Type 0 where
-  pub long : length (t .counts) ≡ replyCount
-  pub low : (r : Reply) → countOf r t ≤ most
+-- ── a list of counts, one for each of some numbers ──
+-- each number stands in the list once: a test that is computed
+abbrev distinct : List ℕ → Bool
+distinct [] = true
+distinct (x ∷ xs) = eqb (position x xs) (length xs) && distinct xs
 
-module _ (t : Tally) (s : Sound t) (x : Reply) where
-  place : numberOf x < length (t .counts)
-  place = omega (arith, number-counted x, s .long)
-
-  -- the tally with the count of x raised
-  abbrev raised : Tally
-  raised = record { counts = set (t .counts) (numberOf x) (countOf x t + 1) }
-
-  below : ltb (countOf x t) most ≡ true → tallied t x ≡ raised
-  unfolding tallied
-  below e = ap (λ (b : Bool). cond b raised t) e
-
-  there : ltb (countOf x t) most ≡ false → tallied t x ≡ t
-  unfolding tallied
-  there e = ap (λ (b : Bool). cond b raised t) e
-
-  raised-same : (r : Reply) → numberOf x ≡ numberOf r → countOf r raised ≡ countOf r t + 1
-  raised-same r e = rw (← e) (getD-set-same (t .counts) (numberOf x) (countOf x t + 1) 0 place)
-
-  raised-other : (r : Reply) → (numberOf x ≡ numberOf r → ⊥) → countOf r raised ≡ countOf r t
-  raised-other r n = getD-set-other (t .counts) (numberOf x) (numberOf r) (countOf x t + 1) 0 (λ e. n (sym e))
-
-  by-number : (r : Reply) (b : Bool) → eqb (numberOf x) (numberOf r) ≡ b → countOf x t < most → countOf r raised ≤ most
-  by-number r true e h =
-      let q : numberOf x ≡ numberOf r = eqb-true (numberOf x) (numberOf r) e in omega (arith, raised-same r q, ap (λ k. getD (t .counts) k 0) q)
-  by-number r false e h = omega (arith, raised-other r (eqb-false (numberOf x) (numberOf r) e), s .low r)
-
-  sound-by : (b : Bool) → ltb (countOf x t) most ≡ b → Sound (tallied t x)
-  sound-by true e =
-      rw (below e)
-      (record {
-        long = length-set (t .counts) (numberOf x) (countOf x t + 1) ∙ s .long;
-        low = λ r. by-number r (eqb (numberOf x) (numberOf r)) refl (ltb-true (countOf x t) most e);
-      })
-  sound-by false e = rw (there e) s
-
-  pub stays-sound : Sound (tallied t x)
-  stays-sound = sound-by (ltb (countOf x t) most) refl
-
-  -- a reply is counted on its own number
-  same-by : (r : Reply) → numberOf x ≡ numberOf r → (b : Bool) → ltb (countOf x t) most ≡ b → countOf r (tallied t x) ≡ capped (countOf r t + 1)
-  same-by r q true e =
-      let h : countOf x t < most = ltb-true (countOf x t) most e in
-      let w : countOf x t ≡ countOf r t = ap (λ k. getD (t .counts) k 0) q in
-      rw (below e) (raised-same r q ∙ sym (min-eq-left (omega arith)))
-  same-by r q false e =
-      let h : most ≤ countOf x t = ltb-false (countOf x t) most e in
-      let w : countOf x t ≡ countOf r t = ap (λ k. getD (t .counts) k 0) q in
-      let l : countOf r t ≡ most = omega (arith, s .low r) in
-      rw (there e) (l ∙ sym (min-eq-right (omega arith)))
-
-  -- and on no other
-  other-by : (r : Reply) → (numberOf x ≡ numberOf r → ⊥) → (b : Bool) → ltb (countOf x t) most ≡ b → countOf r (tallied t x) ≡ countOf r t
-  other-by r n true e = rw (below e) (raised-other r n)
-  other-by r n false e = rw (there e)
-
-  pub counted-once : (r : Reply) (b : Bool) → eqb (numberOf x) (numberOf r) ≡ b → countOf r (tallied t x) ≡ capped (cond b (countOf r t + 1) (countOf r t))
-  counted-once r true e = same-by r (eqb-true (numberOf x) (numberOf r) e) (ltb (countOf x t) most) refl
-  counted-once r false e = other-by r (eqb-false (numberOf x) (numberOf r) e) (ltb (countOf x t) most) refl ∙ sym (min-eq-left (s .low r))
-
--- cutting before and after adding is cutting after
-cut-twice : (a k : ℕ) → capped (capped a + k) ≡ capped (a + k)
-cut-twice a k = go (ltb a most) refl
+first-of : (x : ℕ) (xs : List ℕ) → distinct (x ∷ xs) ≡ true → (position x xs ≡ length xs) × (distinct xs ≡ true)
+first-of x xs e = go (eqb (position x xs) (length xs)) refl e
   where
-    go : (b : Bool) → ltb a most ≡ b → capped (capped a + k) ≡ capped (a + k)
-    go true e = let h : a < most = ltb-true a most e in rw (min-eq-left {n = a} {m = most} (omega arith))
-    go false e =
-        let h : most ≤ a = ltb-false a most e in
-        rw (min-eq-right {n = most} {m = a} h, min-eq-right {n = most} {m = most + k} (omega arith), min-eq-right {n = most} {m = a + k} (omega arith))
+    go : (b : Bool) → eqb (position x xs) (length xs) ≡ b → (b && distinct xs) ≡ true → (position x xs ≡ length xs) × (distinct xs ≡ true)
+    go true t h = (eqb-true _ _ t, h)
+    go false t h = absurd (false≢true h)
 
--- one reply, and what the others come to
-with-first : (t : Tally) (s : Sound t) (x : Reply) (rs : List Reply) (r : Reply)
-    → countOf r (talliedAll (tallied t x) rs) ≡ capped (countOf r (tallied t x) + occurrences r rs)
-    → (b : Bool) → eqb (numberOf x) (numberOf r) ≡ b
-    → countOf r (talliedAll (tallied t x) rs) ≡ capped (countOf r t + cond b (suc (occurrences r rs)) (occurrences r rs))
-with-first t s x rs r rest true e =
-    rest ∙ rw (counted-once t s x r true e) (cut-twice (countOf r t + 1) (occurrences r rs) ∙ ap capped (omega arith))
-with-first t s x rs r rest false e = rest ∙ rw (counted-once t s x r false e) (cut-twice (countOf r t) (occurrences r rs))
+-- of two ways to count that differ at one number alone
+module _ {f g : ℕ → ℕ} (m : ℕ) (elsewhere : (n : ℕ) → n ≢ m → f n ≡ g n) where
+  without-first : (x : ℕ) (xs : List ℕ) → (position m xs ≡ length xs → map f xs ≡ map g xs)
+      → (b : Bool) → eqb x m ≡ b → cond b 0 (suc (position m xs)) ≡ suc (length xs) → map f (x ∷ xs) ≡ map g (x ∷ xs)
+  without-first x xs rest true t e = absurd (omega arith)
+  without-first x xs rest false t e = rw (elsewhere x (eqb-false x m t)) (ap (λ (l : List ℕ). g x ∷ l) (rest (omega arith)))
 
-pub after-replies : (t : Tally) → Sound t → (rs : List Reply) (r : Reply) → countOf r (talliedAll t rs) ≡ capped (countOf r t + occurrences r rs)
-after-replies t s [] r = sym (min-eq-left (omega (arith, s .low r))) ∙ ap capped (omega arith)
-after-replies t s (x ∷ rs) r =
-    with-first t s x rs r (after-replies (tallied t x) (stays-sound t s x) rs r) (eqb (numberOf x) (numberOf r)) refl
+  without : (xs : List ℕ) → position m xs ≡ length xs → map f xs ≡ map g xs
+  unfolding position
+  without [] e = refl
+  without (x ∷ xs) e = without-first x xs (without xs) (eqb x m) refl e
 
-zeros : (n k : ℕ) → _≡_ {A = ℕ} (getD (replicate n 0) k 0) 0
-zeros zero k = refl
-zeros (suc n) zero = refl
-zeros (suc n) (suc k) = zeros n k
+  raised-first : (x : ℕ) (xs : List ℕ) → distinct (x ∷ xs) ≡ true → (set (map f xs) (position m xs) (g m) ≡ map g xs)
+      → (b : Bool) → eqb x m ≡ b → set (map f (x ∷ xs)) (cond b 0 (suc (position m xs))) (g m) ≡ map g (x ∷ xs)
+  raised-first x xs once rest true t =
+      let e : x ≡ m = eqb-true x m t in
+      rw e (ap (λ (l : List ℕ). g m ∷ l) (without xs (ap (λ (k : ℕ). position k xs) (sym e) ∙ first-of x xs once .0)))
+  raised-first x xs once rest false t = rw (elsewhere x (eqb-false x m t)) (ap (λ (l : List ℕ). g x ∷ l) rest)
 
-zero-sound : Sound none
-zero-sound = record { long = refl; low = λ r. omega (arith, zeros replyCount (numberOf r)) }
+  raised : (xs : List ℕ) → distinct xs ≡ true → set (map f xs) (position m xs) (g m) ≡ map g xs
+  unfolding position
+  raised [] once = refl
+  raised (x ∷ xs) once = raised-first x xs once (raised xs (first-of x xs once .1)) (eqb x m) refl
 
--- the count of each reply is how often it was given, whatever the replies and their order
-pub counts-replies : (rs : List Reply) (r : Reply) → countOf r (talliedAll none rs) ≡ capped (occurrences r rs)
-counts-replies rs r =
-    after-replies none zero-sound rs r ∙ ap (λ (k : ℕ). capped (k + occurrences r rs)) (zeros replyCount (numberOf r)) ∙ ap capped (omega arith)
+map-same : {f g : ℕ → ℕ} (xs : List ℕ) → ((n : ℕ) → f n ≡ g n) → map f xs ≡ map g xs
+map-same [] h = refl
+map-same {f} {g} (x ∷ xs) h = rw (h x) (ap (λ (l : List ℕ). g x ∷ l) (map-same xs h))
+
+count-at : (f : ℕ → ℕ) (xs : List ℕ) (i : ℕ) → i < length xs → getD (map f xs) i 0 ≡ f (getD xs i 0)
+count-at f [] i h = absurd (omega arith)
+count-at f (x ∷ xs) zero h = refl
+count-at f (x ∷ xs) (suc i) h = count-at f xs i (omega arith)
+
+-- ── one reply more ──
+in-either-order : (a b : Bool) (k : ℕ)
+    → cond a (suc (cond b (suc k) k)) (cond b (suc k) k) ≡ cond b (suc (cond a (suc k) k)) (cond a (suc k) k)
+in-either-order true true k = refl
+in-either-order true false k = refl
+in-either-order false true k = refl
+in-either-order false false k = refl
+
+one-more : (n : ℕ) (before : List Reply) (x : Reply)
+    → occurrences n (before ++ x ∷ []) ≡ cond (eqb (numberOf x) n) (suc (occurrences n before)) (occurrences n before)
+one-more n [] x = refl
+one-more n (r ∷ rs) x = rw (one-more n rs x) (in-either-order (eqb (numberOf r) n) (eqb (numberOf x) n) (occurrences n rs))
+
+module _ (before : List Reply) (x : Reply) where
+  abbrev was : ℕ → ℕ
+  was n = capped (occurrences n before)
+
+  abbrev is : ℕ → ℕ
+  is n = capped (occurrences n (before ++ x ∷ []))
+
+  same-number : is (numberOf x) ≡ capped (suc (occurrences (numberOf x) before))
+  same-number = rw (one-more (numberOf x) before x, eq-eqb (numberOf x) (numberOf x) refl)
+
+  other-number : (n : ℕ) → n ≢ numberOf x → was n ≡ is n
+  other-number n e = rw (one-more n before x, ne-eqb (numberOf x) n (λ h. e (sym h)))
+
+  at-the-most : most ≤ was (numberOf x) → (n : ℕ) (b : Bool) → eqb n (numberOf x) ≡ b → was n ≡ is n
+  at-the-most h n true e =
+      let many : most ≤ occurrences (numberOf x) before = omega arith in
+      rw (eqb-true n (numberOf x) e, same-number)
+      (min-eq-right many ∙ sym (min-eq-right {n = most} {m = suc (occurrences (numberOf x) before)} (omega arith)))
+  at-the-most h n false e = other-number n (eqb-false n (numberOf x) e)
+
+  below-the-most : was (numberOf x) < most → is (numberOf x) ≡ was (numberOf x) + 1
+  below-the-most h = same-number ∙ omega arith
+
+  own-count : countOf x (tallyOf before) ≡ was (numberOf x)
+  own-count = count-at was counted (placeOf x) (has-place x) ∙ ap was (own-number x)
+
+  by-count : (b : Bool) → ltb (was (numberOf x)) most ≡ b
+      → cond b (record { counts = set (map was counted) (placeOf x) (was (numberOf x) + 1) }) (tallyOf before) ≡ tallyOf (before ++ x ∷ [])
+  unfolding position
+  by-count true e =
+      ap {A = List ℕ} {B = Tally} (λ l. record { counts = l })
+      (ap (set (map was counted) (placeOf x)) (sym (below-the-most (ltb-true (was (numberOf x)) most e)))
+      ∙ raised (numberOf x) other-number counted refl)
+  by-count false e =
+      ap {A = List ℕ} {B = Tally} (λ l. record { counts = l })
+      (map-same counted (λ n. at-the-most (ltb-false (was (numberOf x)) most e) n (eqb n (numberOf x)) refl))
+
+  one-reply-more : tallied (tallyOf before) x ≡ tallyOf (before ++ x ∷ [])
+  unfolding tallied
+  one-reply-more = rw own-count (by-count (ltb (was (numberOf x)) most) refl)
+
+counts-from : (before rs : List Reply) → talliedAll (tallyOf before) rs ≡ tallyOf (before ++ rs)
+counts-from before [] = ap tallyOf (sym (append-nil before))
+counts-from before (x ∷ rs) =
+    ap (λ (t : Tally). talliedAll t rs) (one-reply-more before x)
+    ∙ (counts-from (before ++ x ∷ []) rs ∙ ap tallyOf (append-assoc before (x ∷ []) rs))
+
+-- whatever the replies and their order
+pub counts-replies : (rs : List Reply) → talliedAll none rs ≡ tallyOf rs
+counts-replies rs = counts-from [] rs
+
+-- and so at each reply's own place
+pub count-of-reply : (rs : List Reply) (r : Reply) → countOf r (talliedAll none rs) ≡ capped (occurrences (numberOf r) rs)
+count-of-reply rs r = rw (counts-replies rs) (own-count rs r)

@@ -1,24 +1,15 @@
 -- Over every history: the calls of a module answer what the definition says, and its tally is the count of the replies that were seen.
 use mathlib.Core.Path.{_≡_, refl, sym, ap, _∙_}
 use Prim.Native.Nat.{ℕ}
-use mathlib.Core.Bool.{Bool, true, false, cond, not}
 use mathlib.Core.List.{List, [], _∷_}
 use lib.ListN.{length, take, drop}
 use lib.Seq.{take-append-seam}
-use lib.Dec.{ltb}
 use Rattle.wire.specs.declared.ids.Stream.{Stream}
 use Rattle.wire.specs.declared.ids.BusId.{BusId}
 use Rattle.wire.specs.declared.settings.Settings.{Settings}
-use Rattle.wire.specs.declared.reply.Reply.{Reply}
-use Rattle.wire.specs.Settings.{legal}
-use Rattle.wire.specs.Frames.{maxPayload, badFrame}
-use Rattle.wire.specs.Identifiers.{streamOf, codeOf}
-use Rattle.wire.specs.Classes.{carries}
 use Rattle.wire.specs.Delivered.{over}
 use Rattle.node.specs.declared.Node.{Node}
-use Rattle.node.specs.declared.slots.Slot.{Slot}
-use Rattle.node.specs.Slots.{some, isFree, isReceiver, isSender}
-use Rattle.node.specs.Nodes.{Outcome, noId, hasSlot, slotOf}
+use Rattle.node.specs.Nodes.{Outcome, noId}
 use Rattle.node.specs.Clock.{rolled, unbounded}
 use Rattle.node.specs.SetUp as set-up
 use Rattle.node.specs.Hear as hearing
@@ -26,9 +17,14 @@ use Rattle.node.specs.Tick as ticking
 use Rattle.node.specs.Request as requesting
 use Rattle.node.specs.NextFrame as giving
 use Rattle.node.specs.Calls.{Call, setUp, hear, tick, request, nextFrame, outcome, afterFrom, after, Answer, answerOf, answersFrom, answers}
-use Rattle.node.proofs.Rolling.{same-answers}
+use Rattle.node.proofs.Cases.{by-case}
+use Rattle.node.proofs.set_up.Cases.{set-up-cases}
+use Rattle.node.proofs.hear.Cases.{hear-cases}
+use Rattle.node.proofs.tick.Cases.{tick-cases}
+use Rattle.node.proofs.request.Cases.{request-cases}
+use Rattle.node.proofs.rollover.SameAnswers.{same-answers}
 use Rattle.module.specs.declared.tally.Tally.{Tally}
-use Rattle.module.specs.Tallies.{countOf, talliedAll, occurrences, capped}
+use Rattle.module.specs.Tallies.{talliedAll, tallyOf}
 use Rattle.module.specs.Histories.{Module, freshModule, moduleStep, moduleAfterFrom, moduleAfter, repliesIn}
 use Rattle.module.specs.Histories.{Returned, Left, Promised, nodeIn, seen, Run, start, next}
 use Rattle.module.proofs.Counts.{counts-replies}
@@ -46,23 +42,18 @@ tally-from m (c ∷ cs) = tally-from (moduleStep c m) cs
 pub module-node : (calls : List Call) → moduleAfter calls .node ≡ after rolled calls
 module-node calls = node-from freshModule calls
 
--- each count is the number of such replies in the history
-pub module-counts : (calls : List Call) (r : Reply) → countOf r (moduleAfter calls .tally) ≡ capped (occurrences r (repliesIn (answers rolled calls)))
-module-counts calls r = ap (countOf r) (tally-from freshModule calls) ∙ counts-replies (repliesIn (answers rolled calls)) r
+-- its tally is that of the replies in the history
+pub module-tally : (calls : List Call) → moduleAfter calls .tally ≡ tallyOf (repliesIn (answers rolled calls))
+module-tally calls = tally-from freshModule calls ∙ counts-replies (repliesIn (answers rolled calls))
 
 -- and so with counts of ticks without bound
-pub module-counts-unbounded : (calls : List Call) (r : Reply)
-    → countOf r (moduleAfter calls .tally) ≡ capped (occurrences r (repliesIn (answers unbounded calls)))
-module-counts-unbounded calls r = module-counts calls r ∙ ap (λ (xs : List Answer). capped (occurrences r (repliesIn xs))) (same-answers calls)
+pub module-tally-unbounded : (calls : List Call) → moduleAfter calls .tally ≡ tallyOf (repliesIn (answers unbounded calls))
+module-tally-unbounded calls = module-tally calls ∙ ap (λ (xs : List Answer). tallyOf (repliesIn xs)) (same-answers calls)
 
 -- ── what a call that keeps its promise does ──
 -- the bytes that were written are at the front of what is left
 front : (bytes output : List ℕ) → take (length bytes) (over bytes output) ≡ bytes
 front bytes output = take-append-seam bytes (drop (length bytes) output)
-
-either : (P : Outcome → Type 0) (b : Bool) {x y : Outcome} → P x → P y → P (cond b x y)
-either P true p q = p
-either P false p q = q
 
 -- a call that gives out no frame has no identifier, and one that is lent no output writes nothing
 abbrev NoFrame : Outcome → Type 0
@@ -72,32 +63,16 @@ abbrev Silent : Outcome → Type 0
 Silent o = (o .id ≡ noId) × (o .bytes ≡ [])
 
 set-up-silent : (s : Stream) (settings : Settings) (n : Node) → Silent (set-up.setUp s settings n)
-unfolding set-up.setUp
-set-up-silent s settings n =
-    either Silent (not (legal s settings)) (refl, refl)
-    (either Silent (hasSlot s n) (refl, refl) (either Silent (not (some isFree (n .slots))) (refl, refl) (refl, refl)))
+set-up-silent s settings n = by-case Silent (λ r why. (refl, refl)) (λ h. (refl, refl)) (set-up-cases s settings n .case)
 
 request-silent : (s : Stream) (payload : List ℕ) (n : Node) → Silent (requesting.request s payload n)
-unfolding requesting.request
-request-silent s payload n =
-    either Silent (ltb maxPayload (length payload)) (refl, refl)
-    (either Silent (not (isSender (slotOf s n))) (refl, refl) (either Silent (requesting.busy (slotOf s n)) (refl, refl) (refl, refl)))
-
-hear-at-no-frame : (x : Slot) (id : BusId) (payload : List ℕ) (n : Node) → NoFrame (hearing.hearAt x id payload n)
-unfolding hearing.hearAt
-hear-at-no-frame x id payload n =
-    either NoFrame (not (isReceiver x)) refl
-    (either NoFrame (not (carries (x .settings .class) (codeOf id))) refl (either NoFrame (hearing.clashes (codeOf id) payload x) refl refl))
+request-silent s payload n = by-case Silent (λ r why. (refl, refl)) (λ h. (refl, refl)) (request-cases payload s n .case)
 
 hear-no-frame : (id : BusId) (dlc : ℕ) (payload output : List ℕ) (n : Node) → NoFrame (hearing.hear id dlc payload output n)
-unfolding hearing.hear
-hear-no-frame id dlc payload output n =
-    either NoFrame (ltb (length output) hearing.hearRoom) refl
-    (either NoFrame (badFrame id dlc (length payload)) refl (hear-at-no-frame (slotOf (streamOf id) n) id payload n))
+hear-no-frame id dlc payload output n = by-case NoFrame (λ r why. refl) (λ h. refl) (hear-cases id dlc payload output n .case)
 
 tick-no-frame : (output : List ℕ) (n : Node) → NoFrame (ticking.tick rolled output n)
-unfolding ticking.tick
-tick-no-frame output n = either NoFrame (ltb (length output) ticking.tickRoom) refl refl
+tick-no-frame output n = by-case NoFrame (λ r why. refl) (λ h. refl) (tick-cases output rolled n .case)
 
 -- an answer, by its parts
 answer-is : (o : Outcome) {id : BusId} {bytes : List ℕ} → o .id ≡ id → bytes ≡ o .bytes
@@ -144,11 +119,11 @@ run-end start = refl
 run-end {m} (next {cs = cs} c r left t p rest) = run-end rest ∙ ap (λ (n : Module). moduleAfterFrom n cs) (steps-so c m r left t p)
 
 -- From the fresh node and the zero tally: what was seen is what the definition says, with ticks counted without bound; the node is
--- the definition's; and each count is how often that reply was seen.
+-- the definition's; and the tally is that of the replies that were seen.
 pub record Faithful (calls : List Call) (xs : List Answer) (end : Module) : Type 0 where
   pub answered : xs ≡ answers unbounded calls
   pub node : end .node ≡ after rolled calls
-  pub counted : (r : Reply) → countOf r (end .tally) ≡ capped (occurrences r (repliesIn xs))
+  pub counted : end .tally ≡ tallyOf (repliesIn xs)
 
 pub every-history : {calls : List Call} {xs : List Answer} {end : Module} → Run freshModule calls xs end → Faithful calls xs end
 every-history {calls} {xs} {end} run =
@@ -157,7 +132,5 @@ every-history {calls} {xs} {end} run =
     record {
       answered = saw ∙ same-answers calls;
       node = ap (λ (m : Module). m .node) ends ∙ module-node calls;
-      counted = λ r.
-          ap (λ (m : Module). countOf r (m .tally)) ends
-          ∙ (module-counts calls r ∙ ap (λ (l : List Answer). capped (occurrences r (repliesIn l))) (sym saw));
+      counted = ap (λ (m : Module). m .tally) ends ∙ (module-tally calls ∙ ap (λ (l : List Answer). tallyOf (repliesIn l)) (sym saw));
     }

@@ -1,3 +1,4 @@
+pub mod Places
 pub mod Counts
 pub mod Counting
 pub mod Histories

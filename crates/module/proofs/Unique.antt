@@ -17,6 +17,8 @@ use Rattle.node.specs.Calls.{Call, setUp, hear, tick, request, nextFrame}
 use Rattle.module.specs.declared.tally.Tally.{Tally}
 use Rattle.module.specs.Tallies.{tallied}
 use Rattle.module.specs.Histories.{Module, Returned, Left, Promised}
+use Rattle.module.proofs.tally.Tally.numbers.Reads as numbers
+use Rattle.module.proofs.tally.Tally.place.Reads as place
 use Rattle.module.proofs.tally.Tally.zero.Reads as zero
 use Rattle.module.proofs.tally.Tally.counted.Reads as counted
 use Rattle.module.proofs.tally.count as count
@@ -25,6 +27,12 @@ use Rattle.module.proofs.calls.hear as hearing
 use Rattle.module.proofs.calls.tick as ticking
 use Rattle.module.proofs.calls.request as requesting
 use Rattle.module.proofs.calls.next_frame as giving
+
+pub numbers-unique : OneAnswer numbers.Post
+numbers-unique l input a b s t = same
+
+pub place-unique : OneAnswer place.Post
+place-unique l input a b s t = same
 
 pub zero-unique : OneAnswer zero.Post
 zero-unique l input a b s t = same

@@ -1,22 +1,32 @@
-// The tally: a count for each reply number.
+// The tally: a count for each reply number that the node's calls answer.
 use wire::reply::Reply;
 ghost use mathlib.Core.Path.{_≡_};
-ghost use Rattle.module.specs.Tallies.{none, tallied};
-
-// As many as there are reply numbers, 0 included.
-const REPLIES: usize = 13;
+ghost use Rattle.module.specs.Tallies.{counted, placeOf, none, tallied};
 
 pub struct Tally {
-    pub counts: [u32; REPLIES],
+    // In the order of `Tally::NUMBERS`.
+    pub counts: [u32; Tally::SIZE],
 }
 
 impl Tally {
+    // How many numbers are counted.
+    pub const SIZE: usize = 13;
+
+    // The numbers that are counted, in the tally's order.
+    pub const NUMBERS: [u32; Tally::SIZE] = [0, 1, 2, 3, 4, 5, 6, 7, 8, 9, 10, 11, 12];
+
     pub const ZERO: Tally = Tally {
-        counts: [0; REPLIES],
+        counts: [0; Tally::SIZE],
     };
 
     // A count stays here once there.
     pub const MOST: u32 = 4294967295;
+
+    pub fn numbers() -> [u32; Tally::SIZE]
+        ensures { λ r. ⌜ r ≡ counted ⌝ }
+    {
+        Tally::NUMBERS
+    }
 
     pub fn zero() -> Tally
         ensures { λ r. ⌜ r ≡ none ⌝ }
@@ -24,11 +34,26 @@ impl Tally {
         Tally::ZERO
     }
 
+    // Where the count of a reply stands.
+    pub fn place(reply: Reply) -> usize
+        ensures { λ r. ⌜ r ≡ placeOf reply ⌝ }
+    {
+        let number = reply.number();
+        let mut i: usize = 0;
+        while i < Tally::SIZE {
+            if Tally::NUMBERS[i] == number {
+                return i;
+            }
+            i += 1;
+        }
+        Tally::SIZE
+    }
+
     // The tally with one more reply.
     pub fn counted(mut self, reply: Reply) -> Tally
         ensures { λ r. ⌜ r ≡ tallied self reply ⌝ }
     {
-        let i = reply.number() as usize;
+        let i = Tally::place(reply);
         let n = self.counts[i];
         if n < Tally::MOST {
             self.counts[i] = n + 1;

@@ -2,7 +2,7 @@
 use crate::run::Deliveries;
 use crate::run::Run;
 use crate::says;
-use bench::outbox::Frame;
+use bench_in_code::outbox::Frame;
 use text::Buffer;
 
 const ALL: [bool; 8] = [true; 8];

@@ -1,9 +1,9 @@
 // A bench of three modules that have the stream, its ticks, and what was delivered.
 use crate::drive;
-use bench::Bench;
-use bench::outbox::Frame;
-use bench::outbox::Frames;
-use bench::parts::Said;
+use bench_in_code::Bench;
+use bench_in_code::outbox::Frame;
+use bench_in_code::outbox::Frames;
+use bench_in_code::stations::Said;
 use wire::ids::Stream;
 use wire::settings::Settings;
 

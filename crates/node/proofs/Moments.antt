@@ -1,14 +1,9 @@
--- The worked moments 1 to 9 of the rules paper, as one table that computes.
+-- The worked moments 1 to 9 of the rules paper hold: the table computes.
 use Prim.Native.Nat.{ℕ, zero, suc, _+_, _%_}
 use native.Mathlib.Omega.{arith}
 use mathlib.Core.Path.{_≡_, refl, sym, ap, _∙_}
-use mathlib.Core.Bool.{Bool, true, false}
 use mathlib.Core.List.{List, [], _∷_, _++_, map}
 use lib.ListN.{replicate}
-use Rattle.wire.specs.declared.ids.Stream.{Stream}
-use Rattle.wire.specs.declared.settings.Settings.{Settings}
-use Rattle.wire.specs.declared.reply.Reply.{Reply}
-use Rattle.wire.specs.declared.reply.Reply.the-variants.{Done, BadSettings, BadFrame, Busy}
 use Rattle.wire.specs.Identifiers.{split}
 use Rattle.wire.specs.Classes.{carries}
 use Rattle.wire.specs.Delivered.{recordOf}
@@ -16,130 +11,17 @@ use Rattle.wire.specs.Frames.{badFrame}
 use Rattle.wire.specs.Settings.{legal}
 use Rattle.node.specs.declared.Node.{Node}
 use Rattle.node.specs.Slots.{empty, sameBytes, first, onFirst, some}
-use Rattle.node.specs.Nodes.{fresh, slotOf, Outcome}
-use Rattle.node.specs.Clock.{Clock, turn, unbounded, rolled}
+use Rattle.node.specs.Nodes.{fresh, Outcome}
+use Rattle.node.specs.Clock.{Clock, period, unbounded, rolled}
 use Rattle.node.specs.SetUp.{slotFor, setUp}
-use Rattle.node.specs.Hear.{hear, hearAt, heardBy, deliveredAtOnce, hearRoom}
-use Rattle.node.specs.Tick.{tick, late, due, holdOver, lapsed, dueSlots, recordsFrom, tickRoom}
+use Rattle.node.specs.Hear.{hear, heardBy, deliveredAtOnce}
+use Rattle.node.specs.Tick.{tick, late, due, holdOver, lapsed, dueSlots, recordsFrom}
 use Rattle.node.specs.Request.{request, requested}
-use Rattle.node.specs.NextFrame.{nextFrame, pendingIn, pendingIds, lowest, give, givenOut, payloadFor, nextRoom}
+use Rattle.node.specs.NextFrame.{nextFrame, pendingIn, pendingIds, lowest, give, givenOut, payloadFor}
 use Rattle.node.specs.Calls.{Call, outcome, afterFrom, after, roll, rollOutcome}
-use Rattle.node.proofs.Rolling.{slot-rolls, rolled-node, unrolled}
-
--- ── stream 5, 2M, Rd 2, dc 3, Ra 2, dd 6 ──
-abbrev pub five : Stream
-five = record { 0 = 5 }
-
-abbrev pub receive : ℕ
-receive = 0
-
-abbrev pub send : ℕ
-send = 1
-
-abbrev pub settings : (role dd : ℕ) → Settings
-settings role dd = record { rd = 2; dc = 3; ra = 2; dd = dd; role = role; class = 2 }
-
--- ── the calls, with outputs that are long enough ──
-abbrev pub data₅ : Call
-data₅ = Call.hear (record { 0 = 20 }) 2 (10 ∷ 11 ∷ []) (replicate hearRoom 0)
-
-abbrev pub data-of-length : ℕ → Call
-data-of-length n = Call.hear (record { 0 = 20 }) n (replicate n 10) (replicate hearRoom 0)
-
-abbrev pub confirmation₅ : Call
-confirmation₅ = Call.hear (record { 0 = 21 }) 0 [] (replicate hearRoom 0)
-
-abbrev pub request₅ : Call
-request₅ = Call.request five (10 ∷ 11 ∷ [])
-
-abbrev pub next : Call
-next = Call.nextFrame (replicate nextRoom 0)
-
-abbrev pub one-tick : Call
-one-tick = Call.tick (replicate tickRoom 0)
-
-abbrev pub ticks : ℕ → List Call
-ticks n = replicate n one-tick
-
-abbrev pub delivered₅ : List ℕ
-delivered₅ = 8 ∷ 0 ∷ 1 ∷ 0 ∷ 5 ∷ 0 ∷ 0 ∷ 0 ∷ 10 ∷ 11 ∷ []
-
--- nothing given out
-abbrev pub none : ℕ
-none = 0
-
--- ── a row: from a start, after some calls, a call shows something; or an identifier is split ──
-pub data Start : Type 0 where
-  from-fresh : Start
-  -- the stream was set up to receive, or to send, and then so many ticks came
-  receiving sending : (ticks : ℕ) → Start
-
-pub data Trial : Type 0 where
-  call : Start → (before : List Call) → Call → Trial
-  splits : (id : ℕ) → Trial
-
-pub data Shown : Type 0 where
-  -- the reply, the identifier given out, the bytes written; then the 16-bit counter, and of stream 5 whether it is held, and whether an abort is pending
-  node : Reply → (id : ℕ) → (bytes : List ℕ) → (counter : ℕ) → (held aborts : Bool) → Shown
-  parts : Reply → (stream code : ℕ) → Shown
-
-abbrev pub callsTo : Start → List Call
-callsTo from-fresh = []
-callsTo (receiving n) = Call.setUp five (settings receive 6) ∷ ticks n
-callsTo (sending n) = Call.setUp five (settings send 6) ∷ ticks n
-
-abbrev pub shownBy : Outcome → Shown
-shownBy o =
-    let x = slotOf five (o .node) in
-    node (o .reply) (o .id .0) (o .bytes) (o .node .counter % turn) (x .message .held) (x .pending .abort)
-
--- calls are made from the fresh node
-abbrev pub shows : Clock → Trial → Shown
-shows clock (call start before last) = shownBy (outcome clock last (after clock (callsTo start ++ before)))
-shows clock (splits id) = let p = split (record { 0 = id }) in parts (p .reply) (p .stream .0) (p .code)
-
-pub record Row : Type 0 where
-  pub trial : Trial
-  pub shown : Shown
-
-infix 20 _⇒_
-abbrev _⇒_ : Trial → Shown → Row
-t ⇒ s = record { trial = t; shown = s }
-
-pub moments : List Row
-moments =
-    -- 1: dd 6 is taken; dd 5 is BadSettings.
-    (call from-fresh [] (Call.setUp five (settings receive 6)) ⇒ node Done none [] 0 false false) ∷
-    (call from-fresh [] (Call.setUp five (settings receive 5)) ⇒ node BadSettings none [] 0 false false) ∷
-    -- 2: Data heard at 10, no confirmation: held at 13, dropped and abort pending when the counter becomes 14.
-    (call (receiving 10) (data₅ ∷ ticks 2) one-tick ⇒ node Done none [] 13 true false) ∷
-    (call (receiving 10) (data₅ ∷ ticks 3) one-tick ⇒ node Done none [] 14 false true) ∷
-    -- 3: Confirmed at 13: held at 16, delivered when it becomes 17.
-    (call (receiving 10) (data₅ ∷ ticks 3 ++ confirmation₅ ∷ ticks 2) one-tick ⇒ node Done none [] 16 true false) ∷
-    (call (receiving 10) (data₅ ∷ ticks 3 ++ confirmation₅ ∷ ticks 3) one-tick ⇒ node Done none delivered₅ 17 false false) ∷
-    -- 4: Data at 65,534: dropped when the counter becomes 2.
-    (call (receiving 65534) (data₅ ∷ ticks 2) one-tick ⇒ node Done none [] 1 true false) ∷
-    (call (receiving 65534) (data₅ ∷ ticks 3) one-tick ⇒ node Done none [] 2 false true) ∷
-    -- 5: Confirmation with nothing held: reply 0, abort pending, identifier 22.
-    (call (receiving 10) [] confirmation₅ ⇒ node Done none [] 10 false true) ∷
-    (call (receiving 10) (confirmation₅ ∷ []) next ⇒ node Done 22 [] 10 false false) ∷
-    -- 6: Duplicate at 12 of data heard at 10, confirmed at 13: delivered at 19.
-    (call (receiving 10) (data₅ ∷ ticks 2 ++ data₅ ∷ one-tick ∷ confirmation₅ ∷ ticks 4) one-tick ⇒ node Done none [] 18 true false) ∷
-    (call (receiving 10) (data₅ ∷ ticks 2 ++ data₅ ∷ one-tick ∷ confirmation₅ ∷ ticks 5) one-tick ⇒ node Done none delivered₅ 19 false false) ∷
-    -- 7: Request at 10: another at 18 is Busy; at 19 it is taken (frames given out by then).
-    (call (sending 10) [] request₅ ⇒ node Done none [] 10 true false) ∷
-    (call (sending 10) (request₅ ∷ []) next ⇒ node Done 20 (10 ∷ 11 ∷ []) 10 true false) ∷
-    (call (sending 10) (request₅ ∷ next ∷ []) next ⇒ node Done 21 [] 10 true false) ∷
-    (call (sending 10) (request₅ ∷ next ∷ next ∷ ticks 8) request₅ ⇒ node Busy none [] 18 true false) ∷
-    (call (sending 10) (request₅ ∷ next ∷ next ∷ ticks 9) request₅ ⇒ node Done none [] 19 true false) ∷
-    -- 8: Identifier 536,870,911 splits into 134,217,727 and 3; 536,870,912 is BadFrame.
-    (splits 536870911 ⇒ parts Done 134217727 3) ∷
-    (splits 536870912 ⇒ parts BadFrame 0 0) ∷
-    (call (receiving 10) [] (Call.hear (record { 0 = 536870912 }) 0 [] (replicate hearRoom 0)) ⇒ node BadFrame none [] 10 false false) ∷
-    -- 9: DLC 8 with 8 bytes is taken; DLC 9 is BadFrame.
-    (call (receiving 10) [] (data-of-length 8) ⇒ node Done none [] 10 true false) ∷
-    (call (receiving 10) [] (data-of-length 9) ⇒ node BadFrame none [] 10 false false) ∷
-    []
+use Rattle.node.specs.Moments.{five, receive, send, settings, ticks, Start, from-fresh, receiving, sending, Trial, call, splits, Shown, callsTo, shownBy}
+use Rattle.node.specs.Moments.{shows, Row, moments, MomentsHold}
+use Rattle.node.proofs.rollover.SameAnswers.{slot-rolls, rolled-node, unrolled}
 
 -- ── ticks of a node that holds nothing only move the counter ──
 abbrev idleNode : (role counter : ℕ) → Node
@@ -192,17 +74,17 @@ each-same f g same [] = refl
 each-same f g same (r ∷ rows) = rw (same (r .trial), each-same f g same rows)
 
 computed : map (λ (r : Row). shortly (r .trial)) moments ≡ map (λ (r : Row). r .shown) moments
-unfolding moments setUp hear hearAt heardBy deliveredAtOnce tick late due holdOver lapsed dueSlots recordsFrom request requested
+unfolding moments setUp hear heardBy deliveredAtOnce tick late due holdOver lapsed dueSlots recordsFrom request requested
     nextFrame pendingIn pendingIds lowest give givenOut payloadFor split carries recordOf badFrame legal sameBytes first onFirst some
 computed = refl
 
 -- the definitions, with the counter rolling over, show what the table says
-pub moments-hold : map (λ (r : Row). shows rolled (r .trial)) moments ≡ map (λ (r : Row). r .shown) moments
+pub moments-hold : MomentsHold rolled
 moments-hold = each-same (shows rolled) shortly shows-shortly moments ∙ computed
 
 shown-rolls : (o : Outcome) → shownBy (rollOutcome o) ≡ shownBy o
 shown-rolls o =
-    let again : o .node .counter % turn % turn ≡ o .node .counter % turn = omega arith in
+    let again : o .node .counter % period % period ≡ o .node .counter % period = omega arith in
     rw (slot-rolls five (o .node), again)
 
 same-shown : (t : Trial) → shows unbounded t ≡ shows rolled t
@@ -211,5 +93,5 @@ same-shown (call start before last) =
 same-shown (splits id) = refl
 
 -- and so they do with unbounded counts
-pub moments-hold-unbounded : map (λ (r : Row). shows unbounded (r .trial)) moments ≡ map (λ (r : Row). r .shown) moments
+pub moments-hold-unbounded : MomentsHold unbounded
 moments-hold-unbounded = each-same (shows unbounded) (shows rolled) same-shown moments ∙ moments-hold

@@ -9,12 +9,12 @@ use Rattle.node.specs.declared.slots.Slot.{Slot}
 use Rattle.node.specs.declared.Node.{Node}
 use Rattle.node.specs.Slots.{restamped, withMessage}
 use Rattle.node.specs.Nodes.{Outcome, fresh}
-use Rattle.node.specs.Clock.{Clock, turn}
-use Rattle.node.specs.SetUp as set-up
-use Rattle.node.specs.Hear as hearing
-use Rattle.node.specs.Tick as ticking
-use Rattle.node.specs.Request as requesting
-use Rattle.node.specs.NextFrame as giving
+use Rattle.node.specs.Clock.{Clock, period}
+use Rattle.node.specs.SetUp
+use Rattle.node.specs.Hear
+use Rattle.node.specs.Tick
+use Rattle.node.specs.Request
+use Rattle.node.specs.NextFrame
 
 pub data Call : Type 0 where
   setUp : Stream → Settings → Call
@@ -25,11 +25,11 @@ pub data Call : Type 0 where
 
 -- what a call does; only the tick looks at the clock
 abbrev pub outcome : Clock → Call → Node → Outcome
-outcome clock (setUp s settings) n = set-up.setUp s settings n
-outcome clock (hear id dlc payload output) n = hearing.hear id dlc payload output n
-outcome clock (tick output) n = ticking.tick clock output n
-outcome clock (request s payload) n = requesting.request s payload n
-outcome clock (nextFrame output) n = giving.nextFrame output n
+outcome clock (setUp s settings) n = SetUp.setUp s settings n
+outcome clock (hear id dlc payload output) n = Hear.hear id dlc payload output n
+outcome clock (tick output) n = Tick.tick clock output n
+outcome clock (request s payload) n = Request.request s payload n
+outcome clock (nextFrame output) n = NextFrame.nextFrame output n
 
 -- the node after some calls, the first of them first
 abbrev pub afterFrom : Clock → Node → List Call → Node
@@ -57,10 +57,10 @@ answers clock calls = answersFrom clock fresh calls
 
 -- ── the same node with its counter and stamps modulo 65,536 ──
 abbrev pub rollSlot : Slot → Slot
-rollSlot x = withMessage (restamped (x .message .stamp % turn) (x .message)) x
+rollSlot x = withMessage (restamped (x .message .stamp % period) (x .message)) x
 
 abbrev pub roll : Node → Node
-roll n = record { slots = map rollSlot (n .slots); counter = n .counter % turn }
+roll n = record { slots = map rollSlot (n .slots); counter = n .counter % period }
 
 abbrev pub rollOutcome : Outcome → Outcome
 rollOutcome o = record { node = roll (o .node); reply = o .reply; id = o .id; bytes = o .bytes }

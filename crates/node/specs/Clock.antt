@@ -6,11 +6,11 @@ pub record Clock : Type 0 where
   pub age : (now stamp : ℕ) → ℕ
 
 -- the counter rolls over from one below this to 0
-abbrev pub turn : ℕ
-turn = 65536
+abbrev pub period : ℕ
+period = 65536
 
 abbrev pub unbounded : Clock
 unbounded = record { next = λ now. now + 1; age = λ now stamp. now - stamp }
 
 abbrev pub rolled : Clock
-rolled = record { next = λ now. (now + 1) % turn; age = λ now stamp. (now + (turn - stamp)) % turn }
+rolled = record { next = λ now. (now + 1) % period; age = λ now stamp. (now + (period - stamp)) % period }

@@ -1,7 +1,7 @@
 -- Hearing a frame: the replies ShortOutput, BadFrame, NotMine, Misfit, Clash, in this order.
 use Prim.Native.Nat.{ℕ}
 use mathlib.Core.Bool.{Bool, cond, not, _&&_}
-use mathlib.Core.List.{List, []}
+use mathlib.Core.List.{List, [], _∷_}
 use lib.ListN.{length}
 use lib.Dec.{eqb, ltb}
 use Rattle.wire.specs.declared.ids.BusId.{BusId}
@@ -13,7 +13,7 @@ use Rattle.wire.specs.Delivered.{recordOf}
 use Rattle.node.specs.declared.slots.Slot.{Slot}
 use Rattle.node.specs.declared.Node.{Node}
 use Rattle.node.specs.Slots.{nothing, holding, restamped, confirmed, same, abortPending, isReceiver, withParts, withMessage}
-use Rattle.node.specs.Nodes.{slotOf, onSlot, Outcome, refused, done}
+use Rattle.node.specs.Nodes.{slotOf, onSlot, Outcome, Refusals, unlessRefused, done}
 
 -- a plain frame is delivered at once, so the longest record must fit
 abbrev pub hearRoom : ℕ
@@ -46,16 +46,17 @@ heardBy now code payload x =
 unfoldable pub deliveredAtOnce : BusId → (payload : List ℕ) → List ℕ
 deliveredAtOnce id payload = cond (eqb (codeOf id) 3) (recordOf (streamOf id) payload) []
 
--- a frame, at the slot of its stream
-unfoldable pub hearAt : Slot → BusId → (payload : List ℕ) → Node → Outcome
-hearAt x id payload n =
-    cond (not (isReceiver x)) (refused n NotMine)
-    (cond (not (carries (x .settings .class) (codeOf id))) (refused n Misfit)
-    (cond (clashes (codeOf id) payload x) (refused n Clash)
-    (done (onSlot (streamOf id) (heardBy (n .counter) (codeOf id) payload) n) (deliveredAtOnce id payload))))
+-- what refuses a frame, at the slot of its stream
+abbrev pub hearRefusals : BusId → (dlc : ℕ) → (payload output : List ℕ) → Slot → Refusals
+hearRefusals id dlc payload output x =
+    (ShortOutput, ltb (length output) hearRoom)
+    ∷ (BadFrame, badFrame id dlc (length payload))
+    ∷ (NotMine, not (isReceiver x))
+    ∷ (Misfit, not (carries (x .settings .class) (codeOf id)))
+    ∷ (Clash, clashes (codeOf id) payload x)
+    ∷ []
 
 unfoldable pub hear : BusId → (dlc : ℕ) → (payload output : List ℕ) → Node → Outcome
 hear id dlc payload output n =
-    cond (ltb (length output) hearRoom) (refused n ShortOutput)
-    (cond (badFrame id dlc (length payload)) (refused n BadFrame)
-    (hearAt (slotOf (streamOf id) n) id payload n))
+    unlessRefused n (hearRefusals id dlc payload output (slotOf (streamOf id) n))
+    (done (onSlot (streamOf id) (heardBy (n .counter) (codeOf id) payload) n) (deliveredAtOnce id payload))

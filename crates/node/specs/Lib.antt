@@ -8,5 +8,8 @@ pub mod Request
 pub mod NextFrame
 pub mod Calls
 pub mod Reachable
+pub mod Moments
+pub mod Refused
 pub mod Listing
+pub mod SameAsListing
 pub mod Selection

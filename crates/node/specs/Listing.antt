@@ -1,4 +1,6 @@
--- The listing of protocol rules in HURRAY-TR-0014, as it stands there, for one registered identifier.
+-- The listing of protocol rules in HURRAY-TR-0014, as it stands there, for one registered identifier. The text that we have of it lost the
+-- signs for "in" and "not in" (each test reads `id I received_messages_set`); they are read by what each branch does: a message is added, and
+-- a confirmation answered by an abort, where it is not in the set; an abort takes away what is in it.
 use Prim.Native.Nat.{ℕ, _+_}
 use mathlib.Core.Bool.{Bool, true, false, cond}
 use mathlib.Core.List.{List, [], _∷_}

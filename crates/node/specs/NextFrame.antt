@@ -6,13 +6,13 @@ use lib.ListN.{length}
 use lib.Dec.{eqb, leb, ltb}
 use Rattle.wire.specs.declared.ids.BusId.{BusId}
 use Rattle.wire.specs.declared.reply.Reply.the-variants.{Done, ShortOutput, Nothing}
-use Rattle.wire.specs.Identifiers.{maxStream, maxBusId, streamOf, codeOf}
+use Rattle.wire.specs.Identifiers.{maxStream, streamOf, codeOf}
 use Rattle.wire.specs.Settings.{isPlain}
 use Rattle.node.specs.declared.slots.Pending.{Pending}
 use Rattle.node.specs.declared.slots.Slot.{Slot}
 use Rattle.node.specs.declared.Node.{Node}
 use Rattle.node.specs.Slots.{payloadOf, withParts}
-use Rattle.node.specs.Nodes.{slotOf, onSlot, Outcome, refused}
+use Rattle.node.specs.Nodes.{slotOf, onSlot, Outcome, Refusals, unlessRefused}
 
 -- the longest payload must fit
 abbrev pub nextRoom : ℕ
@@ -43,10 +43,15 @@ unfoldable pub pendingIds : List Slot → List ℕ
 pendingIds [] = []
 pendingIds (x ∷ xs) = pendingIn x ++ pendingIds xs
 
--- the lowest of some identifiers; one above the highest, where there are none
+-- there are none
+abbrev pub isNone : List ℕ → Bool
+isNone [] = true
+isNone (i ∷ is) = false
+
+-- the lowest of some identifiers (of none there is none, and next frame answers Nothing)
 unfoldable pub lowest : List ℕ → ℕ
-lowest [] = maxBusId + 1
-lowest (i ∷ is) = min i (lowest is)
+lowest [] = 0
+lowest (i ∷ is) = cond (isNone is) i (min i (lowest is))
 
 -- the frame with this code is pending no longer
 abbrev pub without : (code : ℕ) → Pending → Pending
@@ -71,8 +76,14 @@ give id n =
       bytes = payloadFor (codeOf id) (slotOf (streamOf id) n);
     }
 
+-- what refuses to give a frame out, these being pending
+abbrev pub nextRefusals : (output : List ℕ) → (pending : List ℕ) → Refusals
+nextRefusals output pending =
+    (ShortOutput, ltb (length output) nextRoom)
+    ∷ (Nothing, isNone pending)
+    ∷ []
+
 unfoldable pub nextFrame : (output : List ℕ) → Node → Outcome
 nextFrame output n =
-    cond (ltb (length output) nextRoom) (refused n ShortOutput)
-    (cond (ltb maxBusId (lowest (pendingIds (n .slots)))) (refused n Nothing)
-    (give (record { 0 = lowest (pendingIds (n .slots)) }) n))
+    let pending = pendingIds (n .slots) in
+    unlessRefused n (nextRefusals output pending) (give (record { 0 = lowest pending }) n)

@@ -1,7 +1,7 @@
 -- The node, and the outcome of a call on it.
 use Prim.Native.Nat.{ℕ}
-use mathlib.Core.Bool.{Bool}
-use mathlib.Core.List.{List, []}
+use mathlib.Core.Bool.{Bool, cond}
+use mathlib.Core.List.{List, [], _∷_}
 use lib.ListN.{length, replicate}
 use Rattle.wire.specs.declared.ids.Stream.{Stream}
 use Rattle.wire.specs.declared.ids.BusId.{BusId}
@@ -47,6 +47,15 @@ noId = record { 0 = 0 }
 -- a refusal changes nothing, writes nothing, and returns 0
 abbrev pub refused : Node → Reply → Outcome
 refused n reply = record { node = n; reply = reply; id = noId; bytes = [] }
+
+-- what a call is refused for: each reply with its test, in their order
+abbrev pub Refusals : Type 0
+Refusals = List (Reply × Bool)
+
+-- the first test that holds refuses the call; where none does, it has this outcome
+abbrev pub unlessRefused : Node → Refusals → Outcome → Outcome
+unlessRefused n [] o = o
+unlessRefused n ((reply, test) ∷ rest) o = cond test (refused n reply) (unlessRefused n rest o)
 
 abbrev pub done : Node → (written : List ℕ) → Outcome
 done n written = record { node = n; reply = Done; id = noId; bytes = written }

@@ -1,7 +1,7 @@
 -- A request to send: the replies BadLength, NotSender, Busy, in this order.
 use Prim.Native.Nat.{ℕ}
 use mathlib.Core.Bool.{Bool, true, false, cond, not, _||_}
-use mathlib.Core.List.{List, []}
+use mathlib.Core.List.{List, [], _∷_}
 use lib.ListN.{length}
 use lib.Dec.{ltb}
 use Rattle.wire.specs.declared.ids.Stream.{Stream}
@@ -12,7 +12,7 @@ use Rattle.node.specs.declared.slots.Pending.{Pending}
 use Rattle.node.specs.declared.slots.Slot.{Slot}
 use Rattle.node.specs.declared.Node.{Node}
 use Rattle.node.specs.Slots.{holding, keeping, isSender, withParts}
-use Rattle.node.specs.Nodes.{slotOf, onSlot, Outcome, refused, done}
+use Rattle.node.specs.Nodes.{slotOf, onSlot, Outcome, Refusals, unlessRefused, done}
 
 abbrev pub hasPending : Pending → Bool
 hasPending p = p .payload || p .confirmation || p .abort
@@ -27,9 +27,14 @@ requested now payload x =
     (cond (isPlain (x .settings)) (keeping payload) (holding now payload))
     (record { payload = true; confirmation = isTwoMessage (x .settings); abort = false })
 
+-- what refuses a request, at the slot of its stream
+abbrev pub requestRefusals : (payload : List ℕ) → Slot → Refusals
+requestRefusals payload x =
+    (BadLength, ltb maxPayload (length payload))
+    ∷ (NotSender, not (isSender x))
+    ∷ (Busy, busy x)
+    ∷ []
+
 unfoldable pub request : Stream → (payload : List ℕ) → Node → Outcome
 request s payload n =
-    cond (ltb maxPayload (length payload)) (refused n BadLength)
-    (cond (not (isSender (slotOf s n))) (refused n NotSender)
-    (cond (busy (slotOf s n)) (refused n Busy)
-    (done (onSlot s (requested (n .counter) payload) n) [])))
+    unlessRefused n (requestRefusals payload (slotOf s n)) (done (onSlot s (requested (n .counter) payload) n) [])

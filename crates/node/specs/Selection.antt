@@ -1,11 +1,12 @@
--- How the tick's code takes the due slots by ascending stream: each slot has a key, and the least key from a number on is
--- looked for again and again. Only contracts of private functions cite this.
-use Prim.Native.Nat.{ℕ, suc, _+_, _-_, _%_}
+-- How the code looks for the least: the tick for the due slot of the least stream (each slot has a key, and the least key from a number on is
+-- looked for again and again), next frame for the lowest identifier. Only contracts of private functions cite this; no promise rests on it.
+use Prim.Native.Nat.{ℕ, suc, _+_, _-_, _%_, min}
 use mathlib.Core.Bool.{Bool, cond, not, _&&_, _||_}
 use mathlib.Core.List.{List, [], _∷_}
 use lib.ListN.{getD}
 use lib.Dec.{eqb, leb, ltb}
 use Rattle.wire.specs.Settings.{isTwoMessage, sends}
+use Rattle.wire.specs.Identifiers.{maxBusId}
 use Rattle.node.specs.declared.slots.Slot.{Slot}
 use Rattle.node.specs.Slots.{nothing, released, abortPending, withParts, withMessage}
 use Rattle.node.specs.Tick.{late, due, holdOver}
@@ -40,3 +41,8 @@ above from key = (key + (18446744073709551616 - from)) % 18446744073709551616
 unfoldable pub leastAt : (from : ℕ) → List ℕ → ℕ
 leastAt from [] = 0
 leastAt from (k ∷ ks) = cond (before from k (getD ks (leastAt from ks) 0)) 0 (suc (leastAt from ks))
+
+-- the lowest of some identifiers; one above the highest, where there are none
+unfoldable pub lowestOrAbove : List ℕ → ℕ
+lowestOrAbove [] = maxBusId + 1
+lowestOrAbove (i ∷ is) = min i (lowestOrAbove is)

@@ -10,7 +10,7 @@ use Rattle.wire.specs.Delivered.{recordOf}
 use Rattle.node.specs.declared.slots.Slot.{Slot}
 use Rattle.node.specs.declared.Node.{Node}
 use Rattle.node.specs.Slots.{nothing, released, payloadOf, abortPending, isReceiver, isSender, withParts, withMessage}
-use Rattle.node.specs.Nodes.{Outcome, refused, done}
+use Rattle.node.specs.Nodes.{Outcome, Refusals, unlessRefused, done}
 use Rattle.node.specs.Clock.{Clock}
 
 -- every slot may deliver, each a record of at most 16 bytes
@@ -71,7 +71,10 @@ abbrev pub ticked : Clock → Node → Node
 ticked clock n =
     record { slots = map (tickSlot clock (clock .next (n .counter))) (n .slots); counter = clock .next (n .counter) }
 
+abbrev pub tickRefusals : (output : List ℕ) → Refusals
+tickRefusals output = (ShortOutput, ltb (length output) tickRoom) ∷ []
+
 unfoldable pub tick : Clock → (output : List ℕ) → Node → Outcome
 tick clock output n =
-    cond (ltb (length output) tickRoom) (refused n ShortOutput)
+    unlessRefused n (tickRefusals output)
     (done (ticked clock n) (recordsFrom (dueSlots clock (clock .next (n .counter)) (n .slots))))

@@ -7,24 +7,27 @@ use wire::reply::Reply;
 ghost use mathlib.Core.Path.{_≡_};
 ghost use Rattle.node.specs.Nodes.{fresh};
 
-pub mod giving;
-pub mod hearing;
-pub mod requesting;
-pub mod setting;
+pub mod hear;
+pub mod next_frame;
+pub mod request;
+pub mod set_up;
 pub mod slots;
-pub mod ticking;
+pub mod tick;
 
 // Fields in their order, as C has them.
 #[repr(C)]
 pub struct Node {
-    pub slots: [Slot; 32],
+    pub slots: [Slot; Node::SLOTS],
     pub counter: u16,
 }
 
 impl Node {
+    // So many streams can be set up.
+    pub const SLOTS: usize = 32;
+
     // Before any call: no stream is set up, and the counter is 0.
     pub const FRESH: Node = Node {
-        slots: [Slot::EMPTY; 32],
+        slots: [Slot::EMPTY; Node::SLOTS],
         counter: 0,
     };
 

@@ -15,16 +15,19 @@ pub struct Message {
     pub len: u8,
     pub held: bool,
     pub confirmed: bool,
-    pub bytes: [u8; 8],
+    pub bytes: [u8; Message::MAX_LEN],
 }
 
 impl Message {
+    // The longest payload of a frame.
+    pub const MAX_LEN: usize = 8;
+
     pub const NOTHING: Message = Message {
         stamp: 0,
         len: 0,
         held: false,
         confirmed: false,
-        bytes: [0; 8],
+        bytes: [0; Message::MAX_LEN],
     };
 
     // The length of the payload, which has at most eight bytes.
@@ -42,7 +45,7 @@ impl Message {
         if payload.len() != len {
             return false;
         }
-        if len > 8 {
+        if len > Message::MAX_LEN {
             return false;
         }
         let bytes = self.bytes;
@@ -58,11 +61,11 @@ impl Message {
 }
 
 // The first eight bytes of a payload, with zeros after it where it is shorter.
-pub fn pad(payload: &[u8]) -> [u8; 8]
+pub fn pad(payload: &[u8]) -> [u8; Message::MAX_LEN]
     ensures { λ r. ⌜ r ≡ take maxPayload (padded (now (payload .entry))) ⌝ }
 {
     let n = at_most_eight(payload.len());
-    let mut bytes: [u8; 8] = [0; 8];
+    let mut bytes = [0u8; Message::MAX_LEN];
     let mut i: usize = 0;
     while i < n {
         bytes[i] = payload[i];
@@ -74,7 +77,11 @@ pub fn pad(payload: &[u8]) -> [u8; 8]
 fn at_most_eight(n: usize) -> usize
     ensures { λ r. ⌜ r ≡ min n maxPayload ⌝ }
 {
-    if n <= 8 { n } else { 8 }
+    if n <= Message::MAX_LEN {
+        n
+    } else {
+        Message::MAX_LEN
+    }
 }
 
 #[repr(C)]

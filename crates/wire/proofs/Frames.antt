@@ -34,7 +34,7 @@ bad-frame-tells id dlc length =
     (below maxBusId (id .0) or below maxPayload dlc or different length dlc
     or (equal (codeOf id) 1 or equal (codeOf id) 2) and different dlc 0)
 
-neither : (a b : Bool) → (a || b) ≡ false → (a ≡ false) × (b ≡ false)
+pub neither : (a b : Bool) → (a || b) ≡ false → (a ≡ false) × (b ≡ false)
 neither true b e = absurd (false≢true (sym e))
 neither false b e = (refl, e)
 

@@ -8,7 +8,7 @@ use Rattle.wire.specs.declared.ids.Stream.{Stream}
 use Rattle.wire.specs.declared.settings.Settings.{Settings}
 use Rattle.wire.specs.Identifiers.{maxStream}
 use Rattle.wire.specs.Tells.{Tells, at-most, equal, in-words, _and_, _or_}
-use Rattle.wire.specs.Settings.{maxDataReach, maxConfirmDelay, maxAbortReach, maxDeliverDelay, legal}
+use Rattle.wire.specs.Settings.{maxDataReach, maxConfirmDelay, maxAbortReach, maxDeliverDelay, ofTwoMessage, legal}
 use Rattle.wire.specs.Settings.{isPlain, isImd, isTwoMessage, plain, imd, twoMessage}
 use Rattle.wire.specs.Settings.{PlainNumbers, ImdNumbers, TwoMessageNumbers, Legal}
 
@@ -67,7 +67,7 @@ legal-tells x s =
 
 -- the rules paper's worked stream: 5, 2M, Rd 2, dc 3, Ra 2
 abbrev pub worked : (role dd : ℕ) → Settings
-worked role dd = record { rd = 2; dc = 3; ra = 2; dd = dd; role = role; class = 2 }
+worked role dd = ofTwoMessage role 2 3 2 dd
 
 -- moment 1, for a receiver and for the sender: dd 6 is taken, dd 5 is not
 pub moment-1-taken : (legal (record { 0 = 5 }) (worked 0 6) ≡ true) × (legal (record { 0 = 5 }) (worked 1 6) ≡ true)

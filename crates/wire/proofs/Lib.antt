@@ -3,6 +3,8 @@ pub mod Classes
 pub mod Frames
 pub mod Identifiers
 pub mod LegalSettings
+pub mod Reading
 pub mod Records
 pub mod Replies
 pub mod Unique
+pub mod Variants

@@ -4,6 +4,7 @@ use mathlib.Core.List.{List}
 use Prim.Native.Nat.{ℕ}
 use denote.Ref.{now}
 use Rattle.wire.proofs.class.carries.Reads as carries
+use Rattle.wire.proofs.delivered.record_at.Reads as record-at
 use Rattle.wire.proofs.delivered.record_length.Reads as record-length
 use Rattle.wire.proofs.delivered.write_record.Reads as write-record
 use Rattle.wire.proofs.frame.bad_frame.Reads as bad-frame
@@ -11,6 +12,10 @@ use Rattle.wire.proofs.ids.BusId.split.Reads as split
 use Rattle.wire.proofs.ids.Stream.join.Reads as join
 use Rattle.wire.proofs.reply.Reply.number.Reads as number
 use Rattle.wire.proofs.settings.Settings.legal.Reads as legal
+use Rattle.wire.proofs.settings.Settings.of.Reads as settings-of
+use Rattle.wire.proofs.settings.Settings.of_plain.Reads as of-plain
+use Rattle.wire.proofs.settings.Settings.of_imd.Reads as of-imd
+use Rattle.wire.proofs.settings.Settings.of_two_message.Reads as of-two-message
 use Rattle.wire.proofs.settings.legal_numbers.Reads as legal-numbers
 
 -- A function's promise, as it is read from its source: a statement about lifetimes, the input, the answer, and what is
@@ -41,6 +46,9 @@ write-record-unique l input a b s t p q = same (p .0) (q .0)
 pub write-record-content-unique : OneContent write-record.Post (λ l e. now (e .0))
 write-record-content-unique l input a b s t p q = same (p .1) (q .1)
 
+pub record-at-unique : OneAnswer record-at.Post
+record-at-unique l input a b s t = same
+
 pub bad-frame-unique : OneAnswer bad-frame.Post
 bad-frame-unique l input a b s t = same
 
@@ -58,3 +66,15 @@ legal-unique l input a b s t = same
 
 pub legal-numbers-unique : OneAnswer legal-numbers.Post
 legal-numbers-unique l input a b s t = same
+
+pub settings-of-unique : OneAnswer settings-of.Post
+settings-of-unique l input a b s t = same
+
+pub of-plain-unique : OneAnswer of-plain.Post
+of-plain-unique l input a b s t = same
+
+pub of-imd-unique : OneAnswer of-imd.Post
+of-imd-unique l input a b s t = same
+
+pub of-two-message-unique : OneAnswer of-two-message.Post
+of-two-message-unique l input a b s t = same

@@ -1,4 +1,4 @@
--- The rules paper's number of each reply.
+-- The rules paper's number of each reply. The numbers need not run on without a gap.
 use Prim.Native.Nat.{ℕ}
 use Rattle.wire.specs.declared.reply.Reply.{Reply}
 use Rattle.wire.specs.declared.reply.Reply.the-variants.{Done, BadSettings, TableFull, Taken, BadFrame, NotMine, Misfit}
@@ -18,7 +18,3 @@ numberOf NotSender = 9
 numberOf BadLength = 10
 numberOf ShortOutput = 11
 numberOf Nothing = 12
-
--- the replies are numbered from 0 to one below this
-abbrev pub replyCount : ℕ
-replyCount = 13

@@ -20,6 +20,24 @@ maxAbortReach = 4000
 abbrev pub maxDeliverDelay : ℕ
 maxDeliverDelay = 16000
 
+-- in the order of the rules paper; a new field is added here and in `src/settings.rt`
+abbrev pub settings : (role class rd dc ra dd : ℕ) → Settings
+settings role class rd dc ra dd = record { role = role; class = class; rd = rd; dc = dc; ra = ra; dd = dd }
+
+-- of each class, what its rules leave open
+abbrev pub ofPlain : (role : ℕ) → Settings
+ofPlain role = settings role 0 0 0 0 0
+
+abbrev pub ofImd : (role rd dd : ℕ) → Settings
+ofImd role rd dd = settings role 1 rd 0 0 dd
+
+abbrev pub ofTwoMessage : (role rd dc ra dd : ℕ) → Settings
+ofTwoMessage role rd dc ra dd = settings role 2 rd dc ra dd
+
+-- of a slot that is not set up
+abbrev pub noSettings : Settings
+noSettings = settings 0 0 0 0 0 0
+
 -- roles: 0 receive, 1 send
 abbrev pub receives : Settings → Bool
 receives s = eqb (s .role) 0

@@ -1,10 +1,10 @@
-// The delivered record: its length, and the writer.
+// The delivered record: its length, the writer, and the reader.
 use crate::ids::Stream;
 use crate::reply::Reply;
 ghost use mathlib.Core.Path.{_≡_};
 ghost use Prim.Native.Nat.{_+_, _≤_, min};
 ghost use lib.ListN.{length, take};
-ghost use Rattle.wire.specs.Delivered.{recordLength, fitting, recordOf, over};
+ghost use Rattle.wire.specs.Delivered.{recordLength, fitting, recordOf, over, numberAt, noRecord, recordAt};
 
 pub struct RecordLength {
     pub reply: Reply,
@@ -68,4 +68,107 @@ fn put_record(out: &mut [u8], stream: Stream, bytes: [u8; 8], n: usize) -> usize
         i += 1;
     }
     8 + n
+}
+
+// What stands at a place of some bytes: a record, or none and why. Where there is none, every number
+// is 0.
+pub struct RecordAt {
+    pub ok: bool,
+    pub fault: Fault,
+    pub stream: Stream,
+    // Where the payload starts, and how long it is.
+    pub payload: usize,
+    pub length: usize,
+    // Where the record ends, and the next may start.
+    pub next: usize,
+}
+
+pub enum Fault {
+    None,
+    // Fewer than four bytes are left, or fewer than the length says.
+    Cut,
+    OtherKind,
+    OtherLength,
+}
+
+impl RecordAt {
+    pub const KIND: usize = 1;
+
+    // Kind and stream, which the length counts beside the payload.
+    pub const LEAST_LENGTH: usize = 6;
+
+    pub const MOST_LENGTH: usize = 14;
+}
+
+// The record that starts at this place, or why there is none.
+pub fn record_at(bytes: &[u8], at: usize) -> RecordAt
+    ensures { λ r. ⌜ r ≡ recordAt (now (bytes .entry)) at ⌝ }
+{
+    let size = bytes.len();
+    if size < at {
+        return no_record(Fault::Cut);
+    }
+    let left = size - at;
+    if left < 4 {
+        return no_record(Fault::Cut);
+    }
+    let follow = two_at(bytes, at);
+    if left < 2 + follow {
+        return no_record(Fault::Cut);
+    }
+    let kind = two_at(bytes, 2 + at);
+    if kind != RecordAt::KIND {
+        return no_record(Fault::OtherKind);
+    }
+    if follow < RecordAt::LEAST_LENGTH {
+        return no_record(Fault::OtherLength);
+    }
+    if follow > RecordAt::MOST_LENGTH {
+        return no_record(Fault::OtherLength);
+    }
+    let payload = 8 + at;
+    let length = follow - RecordAt::LEAST_LENGTH;
+    RecordAt {
+        ok: true,
+        fault: Fault::None,
+        stream: stream_at(bytes, 4 + at),
+        payload,
+        length,
+        next: payload + length,
+    }
+}
+
+fn no_record(fault: Fault) -> RecordAt
+    ensures { λ r. ⌜ r ≡ noRecord fault ⌝ }
+{
+    RecordAt {
+        ok: false,
+        fault,
+        stream: Stream(0),
+        payload: 0,
+        length: 0,
+        next: 0,
+    }
+}
+
+fn two_at(bytes: &[u8], at: usize) -> usize
+    requires { ⌜ 2 + at ≤ length (now bytes) ⌝ }
+    ensures { λ r. ⌜ (r ≡ numberAt 2 (now (bytes .entry)) at) × (r ≤ 65535) ⌝ }
+{
+    wide(bytes[at]) + 256 * wide(bytes[1 + at])
+}
+
+fn stream_at(bytes: &[u8], at: usize) -> Stream
+    requires { ⌜ 4 + at ≤ length (now bytes) ⌝ }
+    ensures { λ r. ⌜ r ≡ record { 0 = numberAt 4 (now (bytes .entry)) at } ⌝ }
+{
+    let low = two_at(bytes, at);
+    let high = two_at(bytes, 2 + at);
+    Stream((low + 65536 * high) as u32)
+}
+
+fn wide(x: u8) -> usize
+    ensures { λ r. ⌜ (r ≡ x) × (r ≤ 255) ⌝ }
+{
+    x as usize
 }

@@ -1,10 +1,14 @@
 // The settings of a stream, and the test that they are within the rules.
 use crate::ids::Stream;
 ghost use mathlib.Core.Path.{_≡_};
-ghost use Rattle.wire.specs.Settings.{legal};
+ghost use Rattle.wire.specs.Settings.{settings, ofPlain, ofImd, ofTwoMessage, legal};
 
+// Made by the functions below, wherever they are made: a new field is added here and in
+// `specs/Settings.antt`.
 #[repr(C)]
 pub struct Settings {
+    pub role: u8,
+    pub class: u8,
     // Data reach, in ticks.
     pub rd: u16,
     // Confirm delay.
@@ -13,8 +17,6 @@ pub struct Settings {
     pub ra: u16,
     // Deliver delay.
     pub dd: u16,
-    pub role: u8,
-    pub class: u8,
 }
 
 impl Settings {
@@ -36,6 +38,48 @@ impl Settings {
 
     pub const MAX_DELIVER_DELAY: u32 = 16000;
 
+    // Of a slot that is not set up.
+    pub const NONE: Settings = Settings {
+        role: 0,
+        class: 0,
+        rd: 0,
+        dc: 0,
+        ra: 0,
+        dd: 0,
+    };
+
+    // In the order of the rules paper.
+    pub fn of(role: u8, class: u8, rd: u16, dc: u16, ra: u16, dd: u16) -> Settings
+        ensures { λ r. ⌜ r ≡ settings role class rd dc ra dd ⌝ }
+    {
+        Settings {
+            role,
+            class,
+            rd,
+            dc,
+            ra,
+            dd,
+        }
+    }
+
+    pub fn of_plain(role: u8) -> Settings
+        ensures { λ r. ⌜ r ≡ ofPlain role ⌝ }
+    {
+        Settings::of(role, Settings::PLAIN, 0, 0, 0, 0)
+    }
+
+    pub fn of_imd(role: u8, rd: u16, dd: u16) -> Settings
+        ensures { λ r. ⌜ r ≡ ofImd role rd dd ⌝ }
+    {
+        Settings::of(role, Settings::IMD, rd, 0, 0, dd)
+    }
+
+    pub fn of_two_message(role: u8, rd: u16, dc: u16, ra: u16, dd: u16) -> Settings
+        ensures { λ r. ⌜ r ≡ ofTwoMessage role rd dc ra dd ⌝ }
+    {
+        Settings::of(role, Settings::TWO_MESSAGE, rd, dc, ra, dd)
+    }
+
     // Whether the stream may be set up with these settings.
     pub fn legal(self, stream: Stream) -> bool
         ensures { λ r. ⌜ r ≡ legal stream self ⌝ }
@@ -54,7 +98,7 @@ impl Settings {
 
 // The same test on seven plain numbers of any size.
 pub fn legal_numbers(stream: u32, role: u32, class: u32, rd: u32, dc: u32, ra: u32, dd: u32) -> bool
-    ensures { λ r. ⌜ r ≡ legal (record { 0 = stream }) (record { rd = rd; dc = dc; ra = ra; dd = dd; role = role; class = class }) ⌝ }
+    ensures { λ r. ⌜ r ≡ legal (record { 0 = stream }) (settings role class rd dc ra dd) ⌝ }
 {
     let plain = (rd == 0) & (dc == 0) & (ra == 0) & (dd == 0);
     let imd = (1 <= rd)

@@ -2,31 +2,31 @@
 -- one, and each return cites the way through the definition.
 use native.Mathlib.Omega.{arith}
 use mathlib.Core.Path.{_≡_, sym, _∙_}
-use mathlib.Core.Logic.{⊎-elim}
 use Prim.Native.Nat.{_-_, _≤_, _<_}
 use mathlib.Core.List.{List}
 use lib.ListN.{length, drop}
 use denote.Ref.{now}
 use Rattle.node.specs.declared.slots.Slot.{Slot}
 use Rattle.node.specs.Slots.{isOf}
-use Rattle.node.specs.NextFrame.{pendingIds, lowest}
-use Rattle.node.proofs.Finding.{length-of-mapped, indexOf, NoneBefore, none-at-first, found-nowhere, found-here, not-here}
-use Rattle.node.proofs.NextFrames.{lowest-past-the-end, lowest-step, lowest-passed}
-use Rattle.node.proofs.NextFrames.{short-output, none-pending, frame-has-slot, frame-given}
+use Rattle.node.specs.NextFrame.{pendingIds}
+use Rattle.node.specs.Selection.{lowestOrAbove}
+use Rattle.node.proofs.slots.Finding.{length-of-mapped, indexOf, NoneBefore, none-at-first, not-here, search-ends}
+use Rattle.node.proofs.next_frame.Ways.{lowest-past-the-end, lowest-step, lowest-passed}
+use Rattle.node.proofs.next_frame.Ways.{short-output, none-pending, frame-has-slot, frame-given}
 use borrow.Author.Needs.{needs}
 use Rattle.node.proofs.Node.next_frame.Statement.{statement}
 use Rattle.node.proofs.Node.next_frame.Tie as tie
 
 -- `low` is the lowest of what is pending from k on
 abbrev Inv-loop : tie.InvT-loop
-Inv-loop out self low₀ k₀ low k = (k ≤ 32) × (low ≡ lowest (pendingIds (drop k (self .slots))))
+Inv-loop out self low₀ k₀ low k = (k ≤ 32) × (low ≡ lowestOrAbove (pendingIds (drop k (self .slots))))
 
 abbrev μ-loop : tie.MeasureT-loop
 μ-loop out self low₀ k₀ low k = k
 
 -- no slot before i is the stream's
 abbrev Inv-loop2 : tie.InvT-loop2
-Inv-loop2 out self low k id stream code i₀ i = (i ≤ 32) × NoneBefore (isOf stream) (self .slots) i
+Inv-loop2 out self low k id stream code i₀ i = NoneBefore (isOf stream) (self .slots) i
 
 abbrev μ-loop2 : tie.MeasureT-loop2
 μ-loop2 out self low k id stream code i₀ i = 32 - i
@@ -46,27 +46,6 @@ loop-holds c =
     let start = c .before .before in
     (omega arith, lowest-past-the-end (start .args .t1 .slots) 32 (long start))
 
-sub-k : tie.Need-sub-k Inv-loop μ-loop Inv-loop2 μ-loop2
-sub-k c = search needs
-
-mul-s : tie.Need-mul-s Inv-loop μ-loop Inv-loop2 μ-loop2
-mul-s c = search needs
-
-element-copy-out-s : tie.Need-element-copy-out-s Inv-loop μ-loop Inv-loop2 μ-loop2
-element-copy-out-s c = search needs
-
-any-requires : tie.Need-any-requires Inv-loop μ-loop Inv-loop2 μ-loop2
-any-requires c κs = search needs
-
-lowest-pending-requires : tie.Need-lowest-pending-requires Inv-loop μ-loop Inv-loop2 μ-loop2
-lowest-pending-requires c κs = search needs
-
-lower-requires : tie.Need-lower-requires Inv-loop μ-loop Inv-loop2 μ-loop2
-lower-requires c κs = search needs
-
-loop-less : tie.Need-loop-less Inv-loop μ-loop Inv-loop2 μ-loop2
-loop-less c = search needs
-
 loop-again : tie.Need-loop-again Inv-loop μ-loop Inv-loop2 μ-loop2
 loop-again c =
     let l = c .before .before .before .before .before .before .before in
@@ -76,9 +55,6 @@ loop-again c =
           ∙ rw (c .before .lowest-pending .ensures, l .loop .inv .1)
           (sym (lowest-step (start .args .t1 .slots) (l .loop .k) _ (omega arith) (omega (arith, long start)))),
     )
-
-loop-less-2 : tie.Need-loop-less-2 Inv-loop μ-loop Inv-loop2 μ-loop2
-loop-less-2 c = search needs
 
 loop-again-2 : tie.Need-loop-again-2 Inv-loop μ-loop Inv-loop2 μ-loop2
 loop-again-2 c =
@@ -90,7 +66,7 @@ loop-again-2 c =
           (sym (c .before .any .ensures) ∙ c .if2 .left),
     )
 
-is-lowest : (c : tie.After-loop Inv-loop μ-loop Inv-loop2 μ-loop2) → c .before .loop .low ≡ lowest (pendingIds (c .before .before .before .before .args .t1 .slots))
+is-lowest : (c : tie.After-loop Inv-loop μ-loop Inv-loop2 μ-loop2) → c .before .loop .low ≡ lowestOrAbove (pendingIds (c .before .before .before .before .args .t1 .slots))
 is-lowest c =
     let front : c .before .loop .k ≡ 0 = omega arith in
     rw (c .before .loop .inv .1, front)
@@ -102,27 +78,9 @@ returns-2 c =
     let a = e .before .before .args in
     none-pending (now (a .out)) (a .t1) (e .if1 .left) _ (is-lowest l) (c .if3 .taken)
 
-split-requires : tie.Need-split-requires Inv-loop μ-loop Inv-loop2 μ-loop2
-split-requires c κs = search needs
-
 -- ── the slot of its stream ──
 loop2-holds : tie.Need-loop2-holds Inv-loop μ-loop Inv-loop2 μ-loop2
-loop2-holds c = (omega arith, none-at-first _ _)
-
-mul-s-2 : tie.Need-mul-s-2 Inv-loop μ-loop Inv-loop2 μ-loop2
-mul-s-2 c = search needs
-
-element-copy-out-s-2 : tie.Need-element-copy-out-s-2 Inv-loop μ-loop Inv-loop2 μ-loop2
-element-copy-out-s-2 c = search needs
-
-is-of-requires : tie.Need-is-of-requires Inv-loop μ-loop Inv-loop2 μ-loop2
-is-of-requires c κs = search needs
-
-add-i : tie.Need-add-i Inv-loop μ-loop Inv-loop2 μ-loop2
-add-i c = search needs
-
-loop2-less : tie.Need-loop2-less Inv-loop μ-loop Inv-loop2 μ-loop2
-loop2-less c = search needs
+loop2-holds c = none-at-first _ _
 
 -- the test that past the first loop some frame is pending, seen from the second loop
 abbrev pending-2 : tie.At-loop2 Inv-loop μ-loop Inv-loop2 μ-loop2 → tie.Else3 Inv-loop μ-loop Inv-loop2 μ-loop2
@@ -134,7 +92,7 @@ start-2 c = pending-2 c .before .before .before .before .before
 loop2-again : tie.Need-loop2-again Inv-loop μ-loop Inv-loop2 μ-loop2
 loop2-again c =
     let l = c .before .before .before .before in
-    (omega arith, not-here _ _ _ _ (omega (arith, long (start-2 l))) (l .loop2 .inv .1) (sym (c .before .is-of .ensures) ∙ c .if4 .left))
+    not-here _ _ _ _ (omega (arith, long (start-2 l))) (l .loop2 .inv) (sym (c .before .is-of .ensures) ∙ c .if4 .left)
 
 -- the loop ends at the stream's slot
 module _ (c : tie.Left-loop2 Inv-loop μ-loop Inv-loop2 μ-loop2) where
@@ -143,11 +101,8 @@ module _ (c : tie.Left-loop2 Inv-loop μ-loop Inv-loop2 μ-loop2) where
 
   at-index : c .before .loop2 .i ≡ indexOf (isOf (c .before .before .before .split .result .stream)) slots
   at-index =
-      let none = c .before .loop2 .inv .1 in
-      ⊎-elim
-      (λ w. found-nowhere _ _ _ (omega (arith, long (start-2 (c .before)))) none)
-      (λ w. found-here _ _ _ _ (omega (arith, long (start-2 (c .before)))) none (sym (w .2 .ensures) ∙ w .3 .taken))
-      (c .loop2-test .came)
+      let all = long (start-2 (c .before)) in
+      search-ends _ _ _ _ (c .before .loop2 .inv) (λ w. omega arith) (λ w. (omega arith, sym (w .2 .ensures) ∙ w .3 .taken)) (c .loop2-test .came)
 
   inside : c .before .loop2 .i < 32
   inside =
@@ -164,20 +119,11 @@ mul-s-3 c = omega (arith, inside c)
 element-copy-out-s-3 : tie.Need-element-copy-out-s-3 Inv-loop μ-loop Inv-loop2 μ-loop2
 element-copy-out-s-3 c = inside c
 
-give-payload-requires : tie.Need-give-payload-requires Inv-loop μ-loop Inv-loop2 μ-loop2
-give-payload-requires c κs = search needs
-
-given-out-requires : tie.Need-given-out-requires Inv-loop μ-loop Inv-loop2 μ-loop2
-given-out-requires c κs = search needs
-
 mul-t : tie.Need-mul-t Inv-loop μ-loop Inv-loop2 μ-loop2
 mul-t c = omega (arith, inside (c .before .before .before .before .before .before))
 
 element-set-from-t : tie.Need-element-set-from-t Inv-loop μ-loop Inv-loop2 μ-loop2
 element-set-from-t c = inside (c .before .before .before .before .before .before)
-
-same-length : tie.Need-same-length Inv-loop μ-loop Inv-loop2 μ-loop2
-same-length c = search needs
 
 returns-3 : tie.Need-returns-3 Inv-loop μ-loop Inv-loop2 μ-loop2
 returns-3 c =
@@ -200,30 +146,30 @@ next-frame-spec =
     μ-loop2
     returns
     loop-holds
-    sub-k
-    mul-s
-    element-copy-out-s
-    any-requires
-    lowest-pending-requires
-    lower-requires
-    loop-less
+    (λ c. search needs)
+    (λ c. search needs)
+    (λ c. search needs)
+    (λ c κs. search needs)
+    (λ c κs. search needs)
+    (λ c κs. search needs)
+    (λ c. search needs)
     loop-again
-    loop-less-2
+    (λ c. search needs)
     loop-again-2
     returns-2
-    split-requires
+    (λ c κs. search needs)
     loop2-holds
-    mul-s-2
-    element-copy-out-s-2
-    is-of-requires
-    add-i
-    loop2-less
+    (λ c. search needs)
+    (λ c. search needs)
+    (λ c κs. search needs)
+    (λ c. search needs)
+    (λ c. search needs)
     loop2-again
     mul-s-3
     element-copy-out-s-3
-    give-payload-requires
-    given-out-requires
+    (λ c κs. search needs)
+    (λ c κs. search needs)
     mul-t
     element-set-from-t
-    same-length
+    (λ c. search needs)
     returns-3)

@@ -1,21 +1,20 @@
 -- `Node::request` meets its contract: the loop finds the slot's index, and each return cites the way through the definition.
 use native.Mathlib.Omega.{arith}
 use mathlib.Core.Path.{_≡_, sym, _∙_}
-use mathlib.Core.Logic.{⊎-elim}
-use Prim.Native.Nat.{_-_, _≤_}
+use Prim.Native.Nat.{_-_}
 use borrow.Author.Tests.{not-true, not-false}
 use lib.ListN.{length}
 use denote.Ref.{now}
 use Rattle.node.specs.Slots.{isOf}
-use Rattle.node.proofs.Finding.{length-of-mapped, indexOf, NoneBefore, none-at-first, found-nowhere, found-here, not-here}
-use Rattle.node.proofs.Requests.{too-long, no-slot, not-a-sender, busy-sender, request-taken}
+use Rattle.node.proofs.slots.Finding.{length-of-mapped, indexOf, NoneBefore, none-at-first, not-here, search-ends}
+use Rattle.node.proofs.request.Ways.{too-long, no-slot, not-a-sender, busy-sender, request-taken}
 use borrow.Author.Needs.{needs}
 use Rattle.node.proofs.Node.request.Statement.{statement}
 use Rattle.node.proofs.Node.request.Tie as tie
 
 -- no slot before i is the stream's
 abbrev Inv-loop : tie.InvT-loop
-Inv-loop stream payload self i₀ i = (i ≤ 32) × NoneBefore (isOf stream) (self .slots) i
+Inv-loop stream payload self i₀ i = NoneBefore (isOf stream) (self .slots) i
 
 abbrev μ-loop : tie.MeasureT-loop
 μ-loop stream payload self i₀ i = 32 - i
@@ -30,39 +29,20 @@ returns c =
     too-long (a .stream) (now (a .payload)) (a .t1) (c .if1 .taken)
 
 loop-holds : tie.Need-loop-holds Inv-loop μ-loop
-loop-holds c = (omega arith, none-at-first _ _)
-
-mul-s : tie.Need-mul-s Inv-loop μ-loop
-mul-s c = search needs
-
-element-copy-out-s : tie.Need-element-copy-out-s Inv-loop μ-loop
-element-copy-out-s c = search needs
-
-is-of-requires : tie.Need-is-of-requires Inv-loop μ-loop
-is-of-requires c κs = search needs
-
-add-i : tie.Need-add-i Inv-loop μ-loop
-add-i c = search needs
-
-loop-less : tie.Need-loop-less Inv-loop μ-loop
-loop-less c = search needs
+loop-holds c = none-at-first _ _
 
 loop-again : tie.Need-loop-again Inv-loop μ-loop
 loop-again c =
     let l = c .before .before .before .before in
     let start = l .before .before .before in
-    (omega arith, not-here _ _ _ _ (omega (arith, long start)) (l .loop .inv .1) (sym (c .before .is-of .ensures) ∙ c .if2 .left))
+    not-here _ _ _ _ (omega (arith, long start)) (l .loop .inv) (sym (c .before .is-of .ensures) ∙ c .if2 .left)
 
 -- the loop ends at the stream's slot
 found : (c : tie.Left-loop Inv-loop μ-loop)
     → c .before .loop .i ≡ indexOf (isOf (c .before .before .before .before .args .stream)) (c .before .before .before .before .args .t1 .slots)
 found c =
-    let l = c .before in
-    let start = l .before .before .before in
-    ⊎-elim
-    (λ w. found-nowhere _ _ _ (omega (arith, long start)) (l .loop .inv .1))
-    (λ w. found-here _ _ _ _ (omega (arith, long start)) (l .loop .inv .1) (sym (w .2 .ensures) ∙ w .3 .taken))
-    (c .loop-test .came)
+    let all = long (c .before .before .before .before) in
+    search-ends _ _ _ _ (c .before .loop .inv) (λ w. omega arith) (λ w. (omega arith, sym (w .2 .ensures) ∙ w .3 .taken)) (c .loop-test .came)
 
 returns-2 : tie.Need-returns-2 Inv-loop μ-loop
 returns-2 c =
@@ -70,15 +50,6 @@ returns-2 c =
     let start = f .before .before .before .before in
     let a = start .args in
     no-slot (a .stream) (now (a .payload)) (a .t1) (f .before .before .if1 .left) _ (found f) (omega (arith, long start))
-
-mul-s-2 : tie.Need-mul-s-2 Inv-loop μ-loop
-mul-s-2 c = search needs
-
-element-copy-out-s-2 : tie.Need-element-copy-out-s-2 Inv-loop μ-loop
-element-copy-out-s-2 c = search needs
-
-is-sender-requires : tie.Need-is-sender-requires Inv-loop μ-loop
-is-sender-requires c κs = search needs
 
 returns-3 : tie.Need-returns-3 Inv-loop μ-loop
 returns-3 c =
@@ -88,9 +59,6 @@ returns-3 c =
     not-a-sender (a .stream) (now (a .payload)) (a .t1) (f .before .before .if1 .left) _ (found f) _ (omega (arith, long start))
     (sym (c .before .is-sender .ensures) ∙ not-true _ (c .if4 .taken))
 
-is-busy-requires : tie.Need-is-busy-requires Inv-loop μ-loop
-is-busy-requires c κs = search needs
-
 returns-4 : tie.Need-returns-4 Inv-loop μ-loop
 returns-4 c =
     let f = c .before .before .before .before .before .before in
@@ -99,15 +67,6 @@ returns-4 c =
     busy-sender (a .stream) (now (a .payload)) (a .t1) (f .before .before .if1 .left) _ (found f) _ (omega (arith, long start))
     (sym (c .before .before .before .is-sender .ensures) ∙ not-false _ (c .before .before .if4 .left))
     (sym (c .before .is-busy .ensures) ∙ c .if5 .taken)
-
-requested-requires : tie.Need-requested-requires Inv-loop μ-loop
-requested-requires c κs = search needs
-
-mul-t : tie.Need-mul-t Inv-loop μ-loop
-mul-t c = search needs
-
-element-set-from-t : tie.Need-element-set-from-t Inv-loop μ-loop
-element-set-from-t c = search needs
 
 returns-5 : tie.Need-returns-5 Inv-loop μ-loop
 returns-5 c =
@@ -128,20 +87,20 @@ request-spec =
     μ-loop
     returns
     loop-holds
-    mul-s
-    element-copy-out-s
-    is-of-requires
-    add-i
-    loop-less
+    (λ c. search needs)
+    (λ c. search needs)
+    (λ c κs. search needs)
+    (λ c. search needs)
+    (λ c. search needs)
     loop-again
     returns-2
-    mul-s-2
-    element-copy-out-s-2
-    is-sender-requires
+    (λ c. search needs)
+    (λ c. search needs)
+    (λ c κs. search needs)
     returns-3
-    is-busy-requires
+    (λ c κs. search needs)
     returns-4
-    requested-requires
-    mul-t
-    element-set-from-t
+    (λ c κs. search needs)
+    (λ c. search needs)
+    (λ c. search needs)
     returns-5)

@@ -4,27 +4,26 @@ use native.Mathlib.Omega.{arith}
 use borrow.Author.Tests.{not-true, not-false}
 use mathlib.Core.Path.{_≡_, sym, _∙_}
 use mathlib.Core.Bool.{true}
-use mathlib.Core.Logic.{⊎-elim}
-use Prim.Native.Nat.{_-_, _≤_}
+use Prim.Native.Nat.{_-_}
 use lib.ListN.{length}
 use Rattle.wire.specs.Settings.{legal}
 use Rattle.node.specs.Slots.{isFree, isOf}
-use Rattle.node.proofs.Finding.{length-of-mapped, indexOf, NoneBefore, none-at-first, found-nowhere, found-here, not-here}
-use Rattle.node.proofs.SettingUp.{bad-settings, stream-taken, table-full, stream-set}
+use Rattle.node.proofs.slots.Finding.{length-of-mapped, indexOf, NoneBefore, none-at-first, not-here, search-ends}
+use Rattle.node.proofs.set_up.Ways.{bad-settings, stream-taken, table-full, stream-set}
 use borrow.Author.Needs.{needs}
 use Rattle.node.proofs.Node.set_up.Statement.{statement}
 use Rattle.node.proofs.Node.set_up.Tie as tie
 
 -- no slot before i is free
 abbrev Inv-loop : tie.InvT-loop
-Inv-loop stream settings self i₀ i = (i ≤ 32) × NoneBefore isFree (self .slots) i
+Inv-loop stream settings self i₀ i = NoneBefore isFree (self .slots) i
 
 abbrev μ-loop : tie.MeasureT-loop
 μ-loop stream settings self i₀ i = 32 - i
 
 -- no slot before k is the stream's
 abbrev Inv-loop2 : tie.InvT-loop2
-Inv-loop2 stream settings self i k₀ k = (k ≤ 32) × NoneBefore (isOf stream) (self .slots) k
+Inv-loop2 stream settings self i k₀ k = NoneBefore (isOf stream) (self .slots) k
 
 abbrev μ-loop2 : tie.MeasureT-loop2
 μ-loop2 stream settings self i k₀ k = 32 - k
@@ -32,9 +31,6 @@ abbrev μ-loop2 : tie.MeasureT-loop2
 -- the table has 32 slots
 long : (c : tie.Start Inv-loop μ-loop Inv-loop2 μ-loop2) → length (c .args .t1 .slots) ≡ 32
 long c = search (needs, length-of-mapped)
-
-legal-requires : tie.Need-legal-requires Inv-loop μ-loop Inv-loop2 μ-loop2
-legal-requires c κs = search needs
 
 returns : tie.Need-returns Inv-loop μ-loop Inv-loop2 μ-loop2
 returns c =
@@ -46,22 +42,7 @@ good c = sym (c .before .legal .ensures) ∙ not-false _ (c .if1 .left)
 
 -- ── the first free slot ──
 loop-holds : tie.Need-loop-holds Inv-loop μ-loop Inv-loop2 μ-loop2
-loop-holds c = (omega arith, none-at-first _ _)
-
-mul-s : tie.Need-mul-s Inv-loop μ-loop Inv-loop2 μ-loop2
-mul-s c = search needs
-
-element-copy-out-s : tie.Need-element-copy-out-s Inv-loop μ-loop Inv-loop2 μ-loop2
-element-copy-out-s c = search needs
-
-is-free-requires : tie.Need-is-free-requires Inv-loop μ-loop Inv-loop2 μ-loop2
-is-free-requires c κs = search needs
-
-add-i : tie.Need-add-i Inv-loop μ-loop Inv-loop2 μ-loop2
-add-i c = search needs
-
-loop-less : tie.Need-loop-less Inv-loop μ-loop Inv-loop2 μ-loop2
-loop-less c = search needs
+loop-holds c = none-at-first _ _
 
 abbrev start-1 : tie.At-loop Inv-loop μ-loop Inv-loop2 μ-loop2 → tie.Start Inv-loop μ-loop Inv-loop2 μ-loop2
 start-1 c = c .before .before .before
@@ -69,35 +50,16 @@ start-1 c = c .before .before .before
 loop-again : tie.Need-loop-again Inv-loop μ-loop Inv-loop2 μ-loop2
 loop-again c =
     let l = c .before .before .before .before in
-    (omega arith, not-here _ _ _ _ (omega (arith, long (start-1 l))) (l .loop .inv .1) (sym (c .before .is-free .ensures) ∙ c .if2 .left))
+    not-here _ _ _ _ (omega (arith, long (start-1 l))) (l .loop .inv) (sym (c .before .is-free .ensures) ∙ c .if2 .left)
 
 free : (c : tie.Left-loop Inv-loop μ-loop Inv-loop2 μ-loop2) → c .before .loop .i ≡ indexOf isFree (start-1 (c .before) .args .t1 .slots)
 free c =
-    let none = c .before .loop .inv .1 in
     let all = long (start-1 (c .before)) in
-    ⊎-elim
-    (λ w. found-nowhere _ _ _ (omega arith) none)
-    (λ w. found-here _ _ _ _ (omega arith) none (sym (w .2 .ensures) ∙ w .3 .taken))
-    (c .loop-test .came)
+    search-ends _ _ _ _ (c .before .loop .inv) (λ w. omega arith) (λ w. (omega arith, sym (w .2 .ensures) ∙ w .3 .taken)) (c .loop-test .came)
 
 -- ── the stream's slot ──
 loop2-holds : tie.Need-loop2-holds Inv-loop μ-loop Inv-loop2 μ-loop2
-loop2-holds c = (omega arith, none-at-first _ _)
-
-mul-s-2 : tie.Need-mul-s-2 Inv-loop μ-loop Inv-loop2 μ-loop2
-mul-s-2 c = search needs
-
-element-copy-out-s-2 : tie.Need-element-copy-out-s-2 Inv-loop μ-loop Inv-loop2 μ-loop2
-element-copy-out-s-2 c = search needs
-
-is-of-requires : tie.Need-is-of-requires Inv-loop μ-loop Inv-loop2 μ-loop2
-is-of-requires c κs = search needs
-
-add-k : tie.Need-add-k Inv-loop μ-loop Inv-loop2 μ-loop2
-add-k c = search needs
-
-loop2-less : tie.Need-loop2-less Inv-loop μ-loop Inv-loop2 μ-loop2
-loop2-less c = search needs
+loop2-holds c = none-at-first _ _
 
 abbrev start-2 : tie.At-loop2 Inv-loop μ-loop Inv-loop2 μ-loop2 → tie.Start Inv-loop μ-loop Inv-loop2 μ-loop2
 start-2 c = start-1 (c .before .before)
@@ -105,17 +67,13 @@ start-2 c = start-1 (c .before .before)
 loop2-again : tie.Need-loop2-again Inv-loop μ-loop Inv-loop2 μ-loop2
 loop2-again c =
     let l = c .before .before .before .before in
-    (omega arith, not-here _ _ _ _ (omega (arith, long (start-2 l))) (l .loop2 .inv .1) (sym (c .before .is-of .ensures) ∙ c .if3 .left))
+    not-here _ _ _ _ (omega (arith, long (start-2 l))) (l .loop2 .inv) (sym (c .before .is-of .ensures) ∙ c .if3 .left)
 
 found : (c : tie.Left-loop2 Inv-loop μ-loop Inv-loop2 μ-loop2)
     → c .before .loop2 .k ≡ indexOf (isOf (start-2 (c .before) .args .stream)) (start-2 (c .before) .args .t1 .slots)
 found c =
-    let none = c .before .loop2 .inv .1 in
     let all = long (start-2 (c .before)) in
-    ⊎-elim
-    (λ w. found-nowhere _ _ _ (omega arith) none)
-    (λ w. found-here _ _ _ _ (omega arith) none (sym (w .2 .ensures) ∙ w .3 .taken))
-    (c .loop2-test .came)
+    search-ends _ _ _ _ (c .before .loop2 .inv) (λ w. omega arith) (λ w. (omega arith, sym (w .2 .ensures) ∙ w .3 .taken)) (c .loop2-test .came)
 
 -- ── the replies ──
 returns-2 : tie.Need-returns-2 Inv-loop μ-loop Inv-loop2 μ-loop2
@@ -134,15 +92,6 @@ returns-3 c =
     table-full (a .stream) (a .settings) (a .t1) (good (g .before .before)) _ (found f) (omega (arith, long start)) _ (free g)
     (omega (arith, long start))
 
-set-up-requires : tie.Need-set-up-requires Inv-loop μ-loop Inv-loop2 μ-loop2
-set-up-requires c κs = search needs
-
-mul-s-3 : tie.Need-mul-s-3 Inv-loop μ-loop Inv-loop2 μ-loop2
-mul-s-3 c = search needs
-
-element-set-from-s : tie.Need-element-set-from-s Inv-loop μ-loop Inv-loop2 μ-loop2
-element-set-from-s c = search needs
-
 returns-4 : tie.Need-returns-4 Inv-loop μ-loop Inv-loop2 μ-loop2
 returns-4 c =
     let f = c .before .before .before in
@@ -160,25 +109,25 @@ set-up-spec =
     μ-loop
     Inv-loop2
     μ-loop2
-    legal-requires
+    (λ c κs. search needs)
     returns
     loop-holds
-    mul-s
-    element-copy-out-s
-    is-free-requires
-    add-i
-    loop-less
+    (λ c. search needs)
+    (λ c. search needs)
+    (λ c κs. search needs)
+    (λ c. search needs)
+    (λ c. search needs)
     loop-again
     loop2-holds
-    mul-s-2
-    element-copy-out-s-2
-    is-of-requires
-    add-k
-    loop2-less
+    (λ c. search needs)
+    (λ c. search needs)
+    (λ c κs. search needs)
+    (λ c. search needs)
+    (λ c. search needs)
     loop2-again
     returns-2
     returns-3
-    set-up-requires
-    mul-s-3
-    element-set-from-s
+    (λ c κs. search needs)
+    (λ c. search needs)
+    (λ c. search needs)
     returns-4)

@@ -5,33 +5,18 @@ use borrow.Author.Needs.{needs}
 use borrow.Author.Tests.{not-true}
 use native.Mathlib.Omega.{arith}
 use mathlib.Core.Path.{_≡_, sym, _∙_}
-use mathlib.Core.Bool.{false}
-use mathlib.Core.List.{[]}
 use Prim.Native.Nat.{_+_, _≤_}
 use lib.ListN.{length, length-set}
-use Rattle.node.specs.declared.slots.Slot.{Slot}
-use Rattle.node.specs.Slots.{nonePending}
 use Rattle.node.specs.Clock.{rolled}
-use Rattle.node.proofs.Finding.{length-of-mapped}
-use Rattle.node.proofs.Stirring.{young-is-still}
-use Rattle.node.proofs.Turns.{Looked, looked-at-first, looked-at-still, looked-at-no-key, looked-at-least, looked-at-more, looked-at-all}
-use Rattle.node.proofs.Turns.{few-looked-at, least-looked-at, Delivering, delivering-at-first, delivering-one-more}
-use Rattle.node.proofs.Turns.{delivering-keeps-length, one-is-left, none-is-found, next-has-room, written-is-small}
-use Rattle.node.proofs.Turns.{all-delivered, Lapsing, lapsing-at-first, lapsing-one-more, lapsing-one-kept, all-lapsed}
-use Rattle.node.proofs.Ticks.{exact-and-unbounded, tick-refused, tick-done, tick-still}
+use Rattle.node.proofs.slots.Finding.{noSlot, length-of-mapped}
+use Rattle.node.proofs.tick.Stirring.{young-is-still}
+use Rattle.node.proofs.tick.Loops.{Looked, looked-at-first, looked-at-still, looked-at-no-key, looked-at-least, looked-at-more, looked-at-all}
+use Rattle.node.proofs.tick.Loops.{few-looked-at, least-looked-at, Delivering, delivering-at-first, delivering-one-more}
+use Rattle.node.proofs.tick.Loops.{delivering-keeps-length, one-is-left, none-is-found, next-has-room, written-is-small}
+use Rattle.node.proofs.tick.Loops.{all-delivered, Lapsing, lapsing-at-first, lapsing-one-more, lapsing-one-kept, all-lapsed}
+use Rattle.node.proofs.tick.Ways.{exact-and-unbounded, tick-refused, tick-done, tick-still}
 use Rattle.node.proofs.Node.tick.Statement.{statement}
 use Rattle.node.proofs.Node.tick.Tie as tie
-
--- what the code reads past the end of an array of slots
-abbrev noSlot : Slot
-noSlot =
-    record {
-      stream = record { 0 = 0 };
-      settings = record { rd = 0; dc = 0; ra = 0; dd = 0; role = 0; class = 0 };
-      message = record { stamp = 0; len = 0; held = false; confirmed = false; bytes = [] };
-      pending = nonePending;
-      used = false;
-    }
 
 abbrev Inv-loop : tie.InvT-loop
 Inv-loop out self now keys₀ stirring₀ any₀ left₀ place₀ best₀ i₀ keys stirring any left place best i =
@@ -58,58 +43,13 @@ returns : tie.Need-returns Inv-loop μ-loop Inv-loop2 μ-loop2 Inv-loop3 μ-loop
 returns c = exact-and-unbounded _ _ _ _ (tick-refused rolled _ _ (omega arith))
 
 -- ── looking ──
-next-requires : tie.Need-next-requires Inv-loop μ-loop Inv-loop2 μ-loop2 Inv-loop3 μ-loop3
-next-requires c κs = search needs
-
 loop-holds : tie.Need-loop-holds Inv-loop μ-loop Inv-loop2 μ-loop2 Inv-loop3 μ-loop3
 loop-holds c =
     let many : length (c .before .before .before .args .t1 .slots) ≡ 32 = search (length-of-mapped, needs) in
     looked-at-first rolled _ _ many
 
-sub-i : tie.Need-sub-i Inv-loop μ-loop Inv-loop2 μ-loop2 Inv-loop3 μ-loop3
-sub-i c = search needs
-
-mul-slot : tie.Need-mul-slot Inv-loop μ-loop Inv-loop2 μ-loop2 Inv-loop3 μ-loop3
-mul-slot c = search needs
-
-element-copy-out-slot : tie.Need-element-copy-out-slot Inv-loop μ-loop Inv-loop2 μ-loop2 Inv-loop3 μ-loop3
-element-copy-out-slot c = search needs
-
-age-requires : tie.Need-age-requires Inv-loop μ-loop Inv-loop2 μ-loop2 Inv-loop3 μ-loop3
-age-requires c κs = search needs
-
-may-stir-requires : tie.Need-may-stir-requires Inv-loop μ-loop Inv-loop2 μ-loop2 Inv-loop3 μ-loop3
-may-stir-requires c κs = search needs
-
-mul-old : tie.Need-mul-old Inv-loop μ-loop Inv-loop2 μ-loop2 Inv-loop3 μ-loop3
-mul-old c = search needs
-
-element-copy-out-old : tie.Need-element-copy-out-old Inv-loop μ-loop Inv-loop2 μ-loop2 Inv-loop3 μ-loop3
-element-copy-out-old c = search needs
-
-stirs-requires : tie.Need-stirs-requires Inv-loop μ-loop Inv-loop2 μ-loop2 Inv-loop3 μ-loop3
-stirs-requires c κs = search needs
-
-key-requires : tie.Need-key-requires Inv-loop μ-loop Inv-loop2 μ-loop2 Inv-loop3 μ-loop3
-key-requires c κs = search needs
-
-mul-keys : tie.Need-mul-keys Inv-loop μ-loop Inv-loop2 μ-loop2 Inv-loop3 μ-loop3
-mul-keys c = search needs
-
-array-write-keys : tie.Need-array-write-keys Inv-loop μ-loop Inv-loop2 μ-loop2 Inv-loop3 μ-loop3
-array-write-keys c = search needs
-
-array-write-stirring : tie.Need-array-write-stirring Inv-loop μ-loop Inv-loop2 μ-loop2 Inv-loop3 μ-loop3
-array-write-stirring c = search needs
-
 add-left : tie.Need-add-left Inv-loop μ-loop Inv-loop2 μ-loop2 Inv-loop3 μ-loop3
 add-left c = omega (arith, c .before .before .before .before .before .before .before .before .before .before .loop .inv .fits)
-
-is-before-requires : tie.Need-is-before-requires Inv-loop μ-loop Inv-loop2 μ-loop2 Inv-loop3 μ-loop3
-is-before-requires c κs = search needs
-
-loop-less : tie.Need-loop-less Inv-loop μ-loop Inv-loop2 μ-loop2 Inv-loop3 μ-loop3
-loop-less c = search needs
 
 loop-again : tie.Need-loop-again Inv-loop μ-loop Inv-loop2 μ-loop2 Inv-loop3 μ-loop3
 loop-again c =
@@ -118,9 +58,6 @@ loop-again c =
     let least = sym (c .before .is-before .ensures) ∙ c .if5 .taken in
     looked-at-least rolled _ (a .before .before .before .loop .inv) _ _ (omega arith) _ (a .age .ensures) stirs _ (c .before .before .before .key .ensures) least
 
-loop-less-2 : tie.Need-loop-less-2 Inv-loop μ-loop Inv-loop2 μ-loop2 Inv-loop3 μ-loop3
-loop-less-2 c = search needs
-
 loop-again-2 : tie.Need-loop-again-2 Inv-loop μ-loop Inv-loop2 μ-loop2 Inv-loop3 μ-loop3
 loop-again-2 c =
     let a = c .before .before .before .before .before .before .before .before .before in
@@ -128,26 +65,17 @@ loop-again-2 c =
     let more = sym (c .before .is-before .ensures) ∙ c .if5 .left in
     looked-at-more rolled _ (a .before .before .before .loop .inv) _ _ (omega arith) _ (a .age .ensures) stirs _ (c .before .before .before .key .ensures) more
 
-loop-less-3 : tie.Need-loop-less-3 Inv-loop μ-loop Inv-loop2 μ-loop2 Inv-loop3 μ-loop3
-loop-less-3 c = search needs
-
 loop-again-3 : tie.Need-loop-again-3 Inv-loop μ-loop Inv-loop2 μ-loop2 Inv-loop3 μ-loop3
 loop-again-3 c =
     let a = c .before .before .before .before .before .before .before in
     let stirs = sym (c .before .before .before .stirs .ensures) ∙ c .before .before .if3 .taken in
     looked-at-no-key rolled _ (a .before .before .before .loop .inv) _ _ (omega arith) _ (a .age .ensures) stirs _ (c .before .key .ensures) (omega arith)
 
-loop-less-4 : tie.Need-loop-less-4 Inv-loop μ-loop Inv-loop2 μ-loop2 Inv-loop3 μ-loop3
-loop-less-4 c = search needs
-
 loop-again-4 : tie.Need-loop-again-4 Inv-loop μ-loop Inv-loop2 μ-loop2 Inv-loop3 μ-loop3
 loop-again-4 c =
     let a = c .before .before .before .before .before in
     let still = sym (c .before .stirs .ensures) ∙ c .if3 .left in
     looked-at-still rolled _ (a .before .before .before .loop .inv) _ _ (omega arith) _ (a .age .ensures) still
-
-loop-less-5 : tie.Need-loop-less-5 Inv-loop μ-loop Inv-loop2 μ-loop2 Inv-loop3 μ-loop3
-loop-less-5 c = search needs
 
 loop-again-5 : tie.Need-loop-again-5 Inv-loop μ-loop Inv-loop2 μ-loop2 Inv-loop3 μ-loop3
 loop-again-5 c =
@@ -172,26 +100,11 @@ loop2-holds c =
 room : (c : tie.In-loop2 Inv-loop μ-loop Inv-loop2 μ-loop2 Inv-loop3 μ-loop3) → c .before .loop2 .at + 16 ≤ length (c .before .loop2 .out)
 room c = next-has-room (c .before .loop2 .inv) noSlot (c .loop2-test .taken)
 
-mul-slot-2 : tie.Need-mul-slot-2 Inv-loop μ-loop Inv-loop2 μ-loop2 Inv-loop3 μ-loop3
-mul-slot-2 c = search needs
-
-element-copy-out-slot-2 : tie.Need-element-copy-out-slot-2 Inv-loop μ-loop Inv-loop2 μ-loop2 Inv-loop3 μ-loop3
-element-copy-out-slot-2 c = search needs
-
-all-bytes-requires : tie.Need-all-bytes-requires Inv-loop μ-loop Inv-loop2 μ-loop2 Inv-loop3 μ-loop3
-all-bytes-requires c κs = search needs
-
 sub-write-record : tie.Need-sub-write-record Inv-loop μ-loop Inv-loop2 μ-loop2 Inv-loop3 μ-loop3
 sub-write-record c = omega (arith, room (c .before .before .before))
 
 part-write-record-start : tie.Need-part-write-record-start Inv-loop μ-loop Inv-loop2 μ-loop2 Inv-loop3 μ-loop3
 part-write-record-start c = omega (arith, room (c .before .before .before))
-
-part-write-record-end : tie.Need-part-write-record-end Inv-loop μ-loop Inv-loop2 μ-loop2 Inv-loop3 μ-loop3
-part-write-record-end c = search needs
-
-write-record-requires : tie.Need-write-record-requires Inv-loop μ-loop Inv-loop2 μ-loop2 Inv-loop3 μ-loop3
-write-record-requires c κs = search needs
 
 add-at : tie.Need-add-at Inv-loop μ-loop Inv-loop2 μ-loop2 Inv-loop3 μ-loop3
 add-at c =
@@ -199,18 +112,6 @@ add-at c =
     let bytes = c .before .before .before .before .all-bytes .ensures in
     let write = c .before .before .write-record .ensures in
     omega (arith, room d, written-is-small (d .before .loop2 .inv) noSlot (d .loop2-test .taken) _ bytes _ (write .0))
-
-wide32-requires : tie.Need-wide32-requires Inv-loop μ-loop Inv-loop2 μ-loop2 Inv-loop3 μ-loop3
-wide32-requires c κs = search needs
-
-add-from : tie.Need-add-from Inv-loop μ-loop Inv-loop2 μ-loop2 Inv-loop3 μ-loop3
-add-from c = search needs
-
-mul-keys-2 : tie.Need-mul-keys-2 Inv-loop μ-loop Inv-loop2 μ-loop2 Inv-loop3 μ-loop3
-mul-keys-2 c = search needs
-
-array-write-keys-2 : tie.Need-array-write-keys-2 Inv-loop μ-loop Inv-loop2 μ-loop2 Inv-loop3 μ-loop3
-array-write-keys-2 c = search needs
 
 sub-left : tie.Need-sub-left Inv-loop μ-loop Inv-loop2 μ-loop2 Inv-loop3 μ-loop3
 sub-left c =
@@ -253,38 +154,11 @@ loop2-again-2 c =
 loop3-holds : tie.Need-loop3-holds Inv-loop μ-loop Inv-loop2 μ-loop2 Inv-loop3 μ-loop3
 loop3-holds c = lapsing-at-first rolled _ _ (c .before .before .before .before .loop .inv .many)
 
-sub-j : tie.Need-sub-j Inv-loop μ-loop Inv-loop2 μ-loop2 Inv-loop3 μ-loop3
-sub-j c = search needs
-
-array-read-if8 : tie.Need-array-read-if8 Inv-loop μ-loop Inv-loop2 μ-loop2 Inv-loop3 μ-loop3
-array-read-if8 c = search needs
-
-mul-slot-3 : tie.Need-mul-slot-3 Inv-loop μ-loop Inv-loop2 μ-loop2 Inv-loop3 μ-loop3
-mul-slot-3 c = search needs
-
-element-copy-out-slot-3 : tie.Need-element-copy-out-slot-3 Inv-loop μ-loop Inv-loop2 μ-loop2 Inv-loop3 μ-loop3
-element-copy-out-slot-3 c = search needs
-
-stirred-requires : tie.Need-stirred-requires Inv-loop μ-loop Inv-loop2 μ-loop2 Inv-loop3 μ-loop3
-stirred-requires c κs = search needs
-
-mul-t65 : tie.Need-mul-t65 Inv-loop μ-loop Inv-loop2 μ-loop2 Inv-loop3 μ-loop3
-mul-t65 c = search needs
-
-element-set-from-self : tie.Need-element-set-from-self Inv-loop μ-loop Inv-loop2 μ-loop2 Inv-loop3 μ-loop3
-element-set-from-self c = search needs
-
-loop3-less : tie.Need-loop3-less Inv-loop μ-loop Inv-loop2 μ-loop2 Inv-loop3 μ-loop3
-loop3-less c = search needs
-
 loop3-again : tie.Need-loop3-again Inv-loop μ-loop Inv-loop2 μ-loop2 Inv-loop3 μ-loop3
 loop3-again c =
     let a = c .before .before .before .before in
     let stirring = looked-at-all rolled _ (a .before .before .before .before .before .loop .inv) (omega arith) .1 in
     lapsing-one-more (a .loop3 .inv) _ noSlot (omega arith) _ stirring (c .before .before .if8 .taken) _ (c .stirred .ensures)
-
-loop3-less-2 : tie.Need-loop3-less-2 Inv-loop μ-loop Inv-loop2 μ-loop2 Inv-loop3 μ-loop3
-loop3-less-2 c = search needs
 
 loop3-again-2 : tie.Need-loop3-again-2 Inv-loop μ-loop Inv-loop2 μ-loop2 Inv-loop3 μ-loop3
 loop3-again-2 c =
@@ -314,46 +188,46 @@ tick-spec =
     Inv-loop3
     μ-loop3
     returns
-    next-requires
+    (λ c κs. search needs)
     loop-holds
-    sub-i
-    mul-slot
-    element-copy-out-slot
-    age-requires
-    may-stir-requires
-    mul-old
-    element-copy-out-old
-    stirs-requires
-    key-requires
-    mul-keys
-    array-write-keys
-    array-write-stirring
+    (λ c. search needs)
+    (λ c. search needs)
+    (λ c. search needs)
+    (λ c κs. search needs)
+    (λ c κs. search needs)
+    (λ c. search needs)
+    (λ c. search needs)
+    (λ c κs. search needs)
+    (λ c κs. search needs)
+    (λ c. search needs)
+    (λ c. search needs)
+    (λ c. search needs)
     add-left
-    is-before-requires
-    loop-less
+    (λ c κs. search needs)
+    (λ c. search needs)
     loop-again
-    loop-less-2
+    (λ c. search needs)
     loop-again-2
-    loop-less-3
+    (λ c. search needs)
     loop-again-3
-    loop-less-4
+    (λ c. search needs)
     loop-again-4
-    loop-less-5
+    (λ c. search needs)
     loop-again-5
     returns-2
     loop2-holds
-    mul-slot-2
-    element-copy-out-slot-2
-    all-bytes-requires
+    (λ c. search needs)
+    (λ c. search needs)
+    (λ c κs. search needs)
     sub-write-record
     part-write-record-start
-    part-write-record-end
-    write-record-requires
+    (λ c. search needs)
+    (λ c κs. search needs)
     add-at
-    wide32-requires
-    add-from
-    mul-keys-2
-    array-write-keys-2
+    (λ c κs. search needs)
+    (λ c. search needs)
+    (λ c. search needs)
+    (λ c. search needs)
     sub-left
     least-requires
     loop2-less
@@ -361,16 +235,16 @@ tick-spec =
     loop2-less-2
     loop2-again-2
     loop3-holds
-    sub-j
-    array-read-if8
-    mul-slot-3
-    element-copy-out-slot-3
-    stirred-requires
-    mul-t65
-    element-set-from-self
-    loop3-less
+    (λ c. search needs)
+    (λ c. search needs)
+    (λ c. search needs)
+    (λ c. search needs)
+    (λ c κs. search needs)
+    (λ c. search needs)
+    (λ c. search needs)
+    (λ c. search needs)
     loop3-again
-    loop3-less-2
+    (λ c. search needs)
     loop3-again-2
     same-length
     returns-3)

@@ -6,7 +6,7 @@ use Prim.Native.Nat.{_-_, _≤_}
 use lib.ListN.{length, replicate, length-set}
 use denote.Ref.{now}
 use Rattle.wire.specs.Frames.{maxPayload}
-use Rattle.node.proofs.Payloads.{filled, copy-next, filled-whole}
+use Rattle.node.proofs.slots.Payloads.{filled, copy-next, filled-whole}
 use Rattle.node.proofs.slots.pad.Statement.{statement}
 use Rattle.node.proofs.slots.pad.Tie as tie
 
@@ -16,23 +16,8 @@ Inv-loop payload n bytes₀ i₀ bytes i = (i ≤ n) × (length bytes ≡ 8) × 
 abbrev μ-loop : tie.MeasureT-loop
 μ-loop payload n bytes₀ i₀ bytes i = n - i
 
-at-most-eight-requires : tie.Need-at-most-eight-requires Inv-loop μ-loop
-at-most-eight-requires c κs = search needs
-
 loop-holds : tie.Need-loop-holds Inv-loop μ-loop
 loop-holds c = (omega arith, refl, refl)
-
-shared-slice-read-bytes : tie.Need-shared-slice-read-bytes Inv-loop μ-loop
-shared-slice-read-bytes c = search needs
-
-array-write-bytes : tie.Need-array-write-bytes Inv-loop μ-loop
-array-write-bytes c = search needs
-
-add-i : tie.Need-add-i Inv-loop μ-loop
-add-i c = search needs
-
-loop-less : tie.Need-loop-less Inv-loop μ-loop
-loop-less c = search needs
 
 loop-again : tie.Need-loop-again Inv-loop μ-loop
 loop-again c =
@@ -56,11 +41,11 @@ pad-spec =
     (tie.spec
     Inv-loop
     μ-loop
-    at-most-eight-requires
+    (λ c κs. search needs)
     loop-holds
-    shared-slice-read-bytes
-    array-write-bytes
-    add-i
-    loop-less
+    (λ c. search needs)
+    (λ c. search needs)
+    (λ c. search needs)
+    (λ c. search needs)
     loop-again
     returns)

@@ -1,7 +1,7 @@
 -- `Message::payload_length` meets its contract: of eight bytes no more than eight are taken.
 use mathlib.Core.Path.{_≡_, sym, _∙_}
 use lib.ListN.{length}
-use Rattle.node.proofs.Payloads.{payload-length}
+use Rattle.node.proofs.slots.Payloads.{payload-length}
 use borrow.Author.Needs.{needs}
 use Rattle.node.proofs.slots.Message.payload_length.Statement.{statement}
 use Rattle.node.proofs.slots.Message.payload_length.Tie as tie
@@ -9,16 +9,10 @@ use Rattle.node.proofs.slots.Message.payload_length.Tie as tie
 eight-bytes : (c : tie.Start) → length (c .args .self .bytes) ≡ 8
 eight-bytes c = search needs
 
-cast-at-most-eight : tie.Need-cast-at-most-eight
-cast-at-most-eight c = search needs
-
-at-most-eight-requires : tie.Need-at-most-eight-requires
-at-most-eight-requires c κs = search needs
-
 returns : tie.Need-returns
 returns c =
     let start = c .before .before in
     c .at-most-eight .ensures ∙ sym (payload-length (start .args .self) (eight-bytes start))
 
 pub payload-length-spec : {M : Type 1} → statement M
-payload-length-spec = tie.close (tie.spec cast-at-most-eight at-most-eight-requires returns)
+payload-length-spec = tie.close (tie.spec (λ c. search needs) (λ c κs. search needs) returns)

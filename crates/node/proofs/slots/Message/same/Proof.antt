@@ -5,8 +5,8 @@ use mathlib.Core.Path.{_≡_, refl, sym, _∙_}
 use Prim.Native.Nat.{_-_, _≤_}
 use lib.ListN.{length, length-take}
 use denote.Ref.{now}
-use Rattle.node.proofs.Payloads.{Compared, differ-in-length, same-so-far, another-byte, same-to-the-end}
-use Rattle.node.proofs.Payloads.{message-of-another-length, message-of-equal-length}
+use Rattle.node.proofs.slots.Payloads.{Compared, differ-in-length, same-so-far, another-byte, same-to-the-end}
+use Rattle.node.proofs.slots.Payloads.{message-of-another-length, message-of-equal-length}
 use Rattle.node.proofs.slots.Message.same.Statement.{statement}
 use Rattle.node.proofs.slots.Message.same.Tie as tie
 
@@ -18,9 +18,6 @@ abbrev μ-loop : tie.MeasureT-loop
 
 eight-bytes : (c : tie.Start Inv-loop μ-loop) → length (c .args .self .bytes) ≡ 8
 eight-bytes c = search needs
-
-cast-len : tie.Need-cast-len Inv-loop μ-loop
-cast-len c = search needs
 
 returns : tie.Need-returns Inv-loop μ-loop
 returns c =
@@ -38,12 +35,6 @@ returns-2 c =
 loop-holds : tie.Need-loop-holds Inv-loop μ-loop
 loop-holds c = (omega arith, refl)
 
-array-read-if3 : tie.Need-array-read-if3 Inv-loop μ-loop
-array-read-if3 c = search needs
-
-shared-slice-read-if3 : tie.Need-shared-slice-read-if3 Inv-loop μ-loop
-shared-slice-read-if3 c = search needs
-
 returns-3 : tie.Need-returns-3 Inv-loop μ-loop
 returns-3 c =
     let l = c .before .before .before in
@@ -54,12 +45,6 @@ returns-3 c =
     let enough : m .len ≤ length (m .bytes) = omega (arith, eight-bytes start) in
     sym (message-of-equal-length m payload as-long
     ∙ another-byte (m .len) (m .bytes) payload enough as-long (l .loop .i) (omega arith) (l .loop .inv .1) (c .if3 .taken))
-
-add-i : tie.Need-add-i Inv-loop μ-loop
-add-i c = search needs
-
-loop-less : tie.Need-loop-less Inv-loop μ-loop
-loop-less c = search needs
 
 loop-again : tie.Need-loop-again Inv-loop μ-loop
 loop-again c =
@@ -88,14 +73,14 @@ same-spec =
     (tie.spec
     Inv-loop
     μ-loop
-    cast-len
+    (λ c. search needs)
     returns
     returns-2
     loop-holds
-    array-read-if3
-    shared-slice-read-if3
+    (λ c. search needs)
+    (λ c. search needs)
     returns-3
-    add-i
-    loop-less
+    (λ c. search needs)
+    (λ c. search needs)
     loop-again
     returns-4)

@@ -3,11 +3,8 @@ use borrow.Author.Needs.{needs}
 use Rattle.node.proofs.slots.Slot.clashes.Statement.{statement}
 use Rattle.node.proofs.slots.Slot.clashes.Tie as tie
 
-same-requires : tie.Need-same-requires
-same-requires c κs = search needs
-
 returns : tie.Need-returns
 returns c = rw (c .same .ensures)
 
 pub clashes-spec : {M : Type 1} → statement M
-clashes-spec = tie.close (tie.spec same-requires returns)
+clashes-spec = tie.close (tie.spec (λ c κs. search needs) returns)

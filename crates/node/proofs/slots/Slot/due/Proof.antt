@@ -1,5 +1,5 @@
 -- `Slot::due` meets its contract: a message that is too young is not due, and for an older one the code is the definition.
-use Rattle.node.proofs.Stirring.{young-is-not-due, old-is-due}
+use Rattle.node.proofs.tick.Stirring.{young-is-not-due, old-is-due}
 use Rattle.node.proofs.slots.Slot.due.Statement.{statement}
 use Rattle.node.proofs.slots.Slot.due.Tie as tie
 

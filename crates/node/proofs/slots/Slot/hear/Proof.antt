@@ -5,15 +5,6 @@ use Rattle.node.specs.Hear.{heardBy}
 use Rattle.node.proofs.slots.Slot.hear.Statement.{statement}
 use Rattle.node.proofs.slots.Slot.hear.Tie as tie
 
-hear-data-requires : tie.Need-hear-data-requires
-hear-data-requires c κs = search needs
-
-hear-confirmation-requires : tie.Need-hear-confirmation-requires
-hear-confirmation-requires c κs = search needs
-
-hear-abort-requires : tie.Need-hear-abort-requires
-hear-abort-requires c κs = search needs
-
 returns : tie.Need-returns
 unfolding heardBy
 returns c = rw (c .before .match .keys1) (c .hear-data .ensures)
@@ -34,9 +25,9 @@ pub hear-spec : {M : Type 1} → statement M
 hear-spec =
     tie.close
     (tie.spec
-    hear-data-requires
-    hear-confirmation-requires
-    hear-abort-requires
+    (λ c κs. search needs)
+    (λ c κs. search needs)
+    (λ c κs. search needs)
     returns
     returns-2
     returns-3

@@ -3,18 +3,12 @@ use borrow.Author.Needs.{needs}
 use native.Mathlib.Omega.{arith}
 use mathlib.Core.Path.{_∙_}
 use denote.Ref.{now}
-use Rattle.node.proofs.Payloads.{padded-whole}
+use Rattle.node.proofs.slots.Payloads.{padded-whole}
 use Rattle.node.proofs.slots.Slot.hear_data.Statement.{statement}
 use Rattle.node.proofs.slots.Slot.hear_data.Tie as tie
 
 returns : tie.Need-returns
 returns c = rw (c .if1 .taken)
-
-cast-t8 : tie.Need-cast-t8
-cast-t8 c = search needs
-
-pad-requires : tie.Need-pad-requires
-pad-requires c κs = search needs
 
 returns-2 : tie.Need-returns-2
 returns-2 c =
@@ -22,4 +16,4 @@ returns-2 c =
     rw (c .before .if1 .left, c .pad .ensures ∙ padded-whole payload (omega arith))
 
 pub hear-data-spec : {M : Type 1} → statement M
-hear-data-spec = tie.close (tie.spec returns cast-t8 pad-requires returns-2)
+hear-data-spec = tie.close (tie.spec returns (λ c. search needs) (λ c κs. search needs) returns-2)

@@ -3,11 +3,8 @@ use borrow.Author.Needs.{needs}
 use Rattle.node.proofs.slots.Slot.is_busy.Statement.{statement}
 use Rattle.node.proofs.slots.Slot.is_busy.Tie as tie
 
-any-requires : tie.Need-any-requires
-any-requires c κs = search needs
-
 returns : tie.Need-returns
 returns c = rw (c .before .any .ensures)
 
 pub is-busy-spec : {M : Type 1} → statement M
-is-busy-spec = tie.close (tie.spec any-requires returns)
+is-busy-spec = tie.close (tie.spec (λ c κs. search needs) returns)

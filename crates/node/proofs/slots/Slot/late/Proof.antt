@@ -1,5 +1,5 @@
 -- `Slot::late` meets its contract: a message that is too young is not late, and for an older one the code is the definition.
-use Rattle.node.proofs.Stirring.{young-is-not-late, old-is-late}
+use Rattle.node.proofs.tick.Stirring.{young-is-not-late, old-is-late}
 use Rattle.node.proofs.slots.Slot.late.Statement.{statement}
 use Rattle.node.proofs.slots.Slot.late.Tie as tie
 

@@ -2,12 +2,9 @@
 -- that led there.
 use borrow.Author.Needs.{needs}
 use mathlib.Core.Path.{sym, _∙_}
-use Rattle.node.proofs.Lowest.{lowest-code}
+use Rattle.node.proofs.next_frame.Lowest.{lowest-code}
 use Rattle.node.proofs.slots.Slot.lowest_code.Statement.{statement}
 use Rattle.node.proofs.slots.Slot.lowest_code.Tie as tie
-
-any-requires : tie.Need-any-requires
-any-requires c κs = search needs
 
 returns : tie.Need-returns
 returns c =
@@ -38,4 +35,4 @@ returns-5 c =
     ∙ rw (← e .before .any .ensures, e .if1 .left, c .before .before .if2 .left, c .before .if3 .left, c .if4 .left))
 
 pub lowest-code-spec : {M : Type 1} → statement M
-lowest-code-spec = tie.close (tie.spec any-requires returns returns-2 returns-3 returns-4 returns-5)
+lowest-code-spec = tie.close (tie.spec (λ c κs. search needs) returns returns-2 returns-3 returns-4 returns-5)

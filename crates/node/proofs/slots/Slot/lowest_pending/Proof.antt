@@ -1,13 +1,10 @@
 -- `Slot::lowest_pending` meets its contract: the lowest code, joined to the stream.
 use borrow.Author.Tests.{not-true, not-false}
 use native.Mathlib.Omega.{arith}
-use Rattle.node.proofs.Lowest.{no-code, not-set-up, no-stream, joined-code}
+use Rattle.node.proofs.next_frame.Lowest.{no-code, not-set-up, no-stream, joined-code}
 use borrow.Author.Needs.{needs}
 use Rattle.node.proofs.slots.Slot.lowest_pending.Statement.{statement}
 use Rattle.node.proofs.slots.Slot.lowest_pending.Tie as tie
-
-lowest-code-requires : tie.Need-lowest-code-requires
-lowest-code-requires c κs = search needs
 
 returns : tie.Need-returns
 returns c =
@@ -25,9 +22,6 @@ returns-3 c =
     let none = no-stream (u .before .before .before .before .args .self) (not-false _ (u .if2 .left)) (c .if3 .taken) in
     rw none
 
-join-requires : tie.Need-join-requires
-join-requires c κs = search needs
-
 returns-4 : tie.Need-returns-4
 returns-4 c =
     let t = c .before .before in
@@ -38,4 +32,4 @@ returns-4 c =
 
 pub lowest-pending-spec : {M : Type 1} → statement M
 lowest-pending-spec =
-    tie.close (tie.spec lowest-code-requires returns returns-2 returns-3 join-requires returns-4)
+    tie.close (tie.spec (λ c κs. search needs) returns returns-2 returns-3 (λ c κs. search needs) returns-4)

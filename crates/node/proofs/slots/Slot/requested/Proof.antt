@@ -4,12 +4,9 @@ use borrow.Author.Needs.{needs}
 use Rattle.node.proofs.slots.Slot.requested.Statement.{statement}
 use Rattle.node.proofs.slots.Slot.requested.Tie as tie
 
-message-for-requires : tie.Need-message-for-requires
-message-for-requires c κs = search needs
-
 returns : tie.Need-returns
 unfolding requested
 returns c = rw (c .before .message-for .ensures)
 
 pub requested-spec : {M : Type 1} → statement M
-requested-spec = tie.close (tie.spec message-for-requires returns)
+requested-spec = tie.close (tie.spec (λ c κs. search needs) returns)

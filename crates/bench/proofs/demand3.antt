@@ -1,0 +1,3 @@
+-- DEMAND 3: every live receiver has delivered a two-message message once, or none has.
+pub mod Demand3
+pub mod WholeHistory

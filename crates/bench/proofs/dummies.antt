@@ -1,0 +1,3 @@
+-- Modules that refuse or never deliver fail demand 3.
+pub mod RefusingNode
+pub mod DummiesFail

@@ -1,0 +1,89 @@
+-- What a class of messages fills in, so that each of its streams on the bench is a strand of the one-stream proof: the class there, what it
+-- sees held in a node's slot, and that the node's calls do with the slot what the class does.
+use Prim.Native.Nat.{ℕ, _+_, _-_, _≤_}
+use mathlib.Core.Path.{_≡_}
+use mathlib.Core.Bool.{Bool, true, false, not, _&&_, _||_, cond}
+use mathlib.Core.List.{List, []}
+use lib.ListN.{length}
+use lib.Dec.{T, eqb, ltb}
+use Rattle.wire.specs.declared.ids.Stream.{Stream}
+use Rattle.wire.specs.declared.settings.Settings.{Settings}
+use Rattle.wire.specs.Classes as wire
+use Rattle.wire.specs.Frames.{maxPayload, badFrame}
+use Rattle.wire.specs.Identifiers.{idOf, maxStream}
+use Rattle.wire.specs.Settings.{legal}
+use Rattle.node.specs.declared.slots.Slot.{Slot}
+use Rattle.node.specs.Clock.{unbounded}
+use Rattle.node.specs.Hear.{clashes, heardBy}
+use Rattle.node.specs.NextFrame.{givenOut, payloadFor}
+use Rattle.node.specs.Reachable.{KeptSlot}
+use Rattle.node.specs.Slots.{isReceiver, isSender, payloadOf}
+use Rattle.node.specs.Tick as Tick
+use Rattle.one_stream.proofs.Chain.{Works}
+use Rattle.one_stream.specs.Sendings as OS
+use Rattle.one_stream.specs.Classes as OC
+use Rattle.bench.specs.Bench.{Frame}
+use Rattle.bench.specs.Rules.{wasSent}
+use Rattle.bench.proofs.message.SendingsSeen.{toSent}
+
+-- ── a stream's numbers, as the one-stream proof has them ──
+-- live modules count alike, so that nothing drifts; no class has the fifth delay yet
+abbrev pub toDelays : Settings → OS.Delays
+toDelays set = record { rd = set .rd; dc = set .dc; ra = set .ra; dd = set .dd; e = 0; da = 0 }
+
+-- ── slots of a class ──
+-- settings of the class with this number, whose own numbers are these
+pub record OfClass (n : ℕ) (D : OS.Delays) (set : Settings) : Type 0 where
+  pub class : T (eqb (set .class) n)
+  pub numbers : toDelays set ≡ D
+
+-- a receive slot of the class, as calls leave it
+pub record Receiving (n : ℕ) (D : OS.Delays) (now : ℕ) (x : Slot) : Type 0 where
+  pub receiver : T (isReceiver x)
+  pub settings : OfClass n D (x .settings)
+  pub kept : KeptSlot now x
+
+-- what the class sees of a slot: what is held in it, and whether a frame of code 2 is pending
+pub record Shows {H : Type 0} (held : Slot → H) (h : H) (pending : Bool) (x : Slot) : Type 0 where
+  pub holds : held x ≡ h
+  pub pends : x .pending .abort ≡ pending
+
+-- ── the class with this number, where its delays are D ──
+pub record ClassOnBench (n : ℕ) (D : OS.Delays) : Type 1 where
+  pub C : OC.Class
+  pub works : Works D C
+  -- what the class sees held in a receive slot; where nothing is, it is idle
+  pub held : Slot → C .Slot
+  pub idle : (x : Slot) → x .message .held ≡ false → held x ≡ C .idle
+  -- its frames have the codes 0 to 2; one of code 2 carries what the node gives out, and is not refused as a bad frame
+  pub carries : (code : ℕ) → code ≤ 2 → wire.carries n code ≡ true
+  pub gives : (x : Slot) (p : List ℕ) → payloadFor 2 x ≡ C .carried p
+  pub good : (s : Stream) → s .0 ≤ maxStream → (p : List ℕ) → length p ≤ maxPayload
+      → badFrame (idOf s 2) (length (C .carried p)) (length (C .carried p)) ≡ false
+  -- data, a confirmation, a frame of code 2 is heard
+  pub onData : (now : ℕ) (x : Slot) → Receiving n D now x → (p : List ℕ)
+      → Shows held (C .onData now p (held x)) (x .pending .abort) (cond (not (clashes 0 p x)) (heardBy now 0 p x) x)
+  pub onConf : (now : ℕ) (x : Slot) → Receiving n D now x
+      → Shows held (C .onConf (held x)) (x .pending .abort || C .refuses (held x)) (cond (not (clashes 1 [] x)) (heardBy now 1 [] x) x)
+  pub onCode2 : (now : ℕ) (x : Slot) → Receiving n D now x → (p : List ℕ) → (let b = C .carried p in
+      Shows held (C .onCode2 now b (held x)) (x .pending .abort) (cond (not (clashes 2 b x)) (heardBy now 2 b x) x))
+  -- a frame of code 2 is given out
+  pub onGiven : (now : ℕ) (x : Slot) → Receiving n D now x → Shows held (C .onGiven (held x)) false (givenOut 2 x)
+  -- a tick: what it makes of the slot, and what it delivers
+  pub onTick : (now : ℕ) (x : Slot) → Receiving n D now x
+      → Shows held (C .onTick (now + 1) (held x)) (x .pending .abort || C .late (now + 1) (held x)) (Tick.tickSlot unbounded (now + 1) x)
+  pub due : (now : ℕ) (x : Slot) → Receiving n D now x → Tick.due (now + 1 - x .message .stamp) x ≡ C .due (now + 1) (held x)
+  pub delivers : (now : ℕ) (x : Slot) → Receiving n D now x → T (C .due (now + 1) (held x)) → payloadOf (x .message) ≡ C .held (held x)
+  -- the sender's hold
+  pub hold : (x : Slot) → T (isSender x) → OfClass n D (x .settings) → (age : ℕ)
+      → Tick.holdOver age x ≡ (x .message .held && ltb (C .hold) age)
+  -- as the rules have it today: a confirmation follows any sending of the data, and a frame of code 2 is served by any sending
+  pub ready : (f : Frame) → T (wasSent f) → C .Ready (toSent (f .sendings))
+  pub done : (f : Frame) → T (wasSent f) → C .Done (toSent (f .sendings))
+  -- as the books have it today: a frame that is caused while one is pending is the same frame, and its owner is told nothing of its sendings
+  pub merges : C .merges ≡ true
+  pub untold : (now : ℕ) (h : C .Slot) → C .onFull now h ≡ h
+
+-- the class, for all settings that are taken
+abbrev pub OnBench : ℕ → Type 1
+OnBench n = (s : Stream) (set : Settings) → T (eqb (set .class) n) → T (legal s set) → ClassOnBench n (toDelays set)

@@ -1,0 +1,229 @@
+-- One module seen by a stream of a class, as the one-stream proof has a receiver; and what hearing a frame and a tick make of its slot.
+use Prim.Native.Nat.{ℕ, _+_, _-_, _≤_}
+use native.Mathlib.Omega.{arith}
+use mathlib.Core.Path.{_≡_, refl, ap, sym, subst, _∙_}
+use mathlib.Core.Bool.{Bool, true, false, not, _&&_, _||_, cond, true≢false}
+use mathlib.Core.List.{List, [], _∷_, map}
+use lib.ListN.{length}
+use lib.Dec.{T, ltb, eqb, eqb-refl, eqb→eq, ltb→lt}
+use native.Mathlib.Decide.{decLe}
+use Rattle.wire.specs.declared.ids.Stream.{Stream}
+use Rattle.wire.specs.declared.settings.Settings.{Settings}
+use Rattle.node.specs.declared.slots.Slot.{Slot}
+use Rattle.node.specs.declared.Node.{Node}
+use Rattle.wire.specs.Classes.{carries}
+use Rattle.wire.specs.Frames.{maxPayload, unwantedPayload, badFrame}
+use Rattle.wire.specs.Identifiers.{idOf, streamOf, codeOf, maxStream, maxBusId}
+use Rattle.wire.specs.Settings.{receives, isPlain}
+use Rattle.node.specs.Clock.{unbounded}
+use Rattle.node.specs.Hear.{clashes, heardBy}
+use Rattle.node.specs.Nodes.{slotOf}
+use Rattle.node.specs.Reachable.{Kept}
+use Rattle.node.specs.Slots.{isReceiver}
+use Rattle.node.specs.Tick.{late, due, holdOver, lapsed, tickSlot}
+use Rattle.node.proofs.slots.Streams.{Kind, kindOf}
+use Rattle.one_stream.proofs.Truth.{is-true, is-false, not-so}
+use Rattle.bench.specs.Bench.{Module, Frame, Delivery}
+use Rattle.bench.specs.Events.{onto, deliveries}
+use Rattle.bench.proofs.laws.SlotAfterCall.{same-stream, slot-kept, hearing, hear-own, ticking, tick-slot, onStream, deliveryOf, tick-delivers}
+use Rattle.bench.proofs.laws.ModuleAfterEvent.{hear-kind, tick-kind, asFunction}
+use Rattle.bench.proofs.message.SendingsSeen.{toSent}
+use Rattle.bench.proofs.message.ClassOnBench.{OfClass, Receiving, Shows, ClassOnBench}
+use Rattle.one_stream.specs.Sendings as OS
+use Rattle.one_stream.specs.Frames as OF
+use Rattle.one_stream.specs.Classes as OC
+
+-- ── frames and deliveries ──
+-- a frame of code 2, of a message of which it carries these bytes
+unfoldable pub toFrame : (carried : List ℕ) → Frame → OF.Frame
+toFrame carried f = record { since = asFunction (f .since); given = f .given; sendings = toSent (f .sendings); bytes = carried }
+
+abbrev pub toNote : Delivery → OC.Note
+toNote d = record { at = d .at; bytes = d .payload }
+
+abbrev pub notes : Stream → List Delivery → List OC.Note
+notes s log = map toNote (onStream s log)
+
+-- ── the receiver ──
+module _ {n : ℕ} {D : OS.Delays} (K : ClassOnBench n D) where
+  -- a module that has no receive slot for the stream is no live receiver
+  abbrev pub viewOf : (live receiver : Bool) → K .C .Slot → (pending : Bool) → List OF.Frame → List OC.Note → OC.Receiver (K .C)
+  viewOf l r h p fs log = record { live = l && r; slot = cond r h (K .C .idle); pending = p; frames = fs; log = log }
+
+  unfoldable pub view : Stream → (carried : List ℕ) → Module → List Frame → OC.Receiver (K .C)
+  view s carried m fs =
+      let x = slotOf s (m .node) in
+      viewOf (m .live) (isReceiver x) (K .held x) (x .pending .abort) (map (toFrame carried) fs) (notes s (m .log))
+
+  -- what a slot looks like to the stream; what is held matters at a receiver alone
+  pub record Looks (r : Bool) (h : K .C .Slot) (p : Bool) (x : Slot) : Type 0 where
+    pub receiver : isReceiver x ≡ r
+    pub held : T r → K .held x ≡ h
+    pub pending : x .pending .abort ≡ p
+
+  pub looks : (x : Slot) → Looks (isReceiver x) (K .held x) (x .pending .abort) x
+  looks x = record { receiver = refl; held = λ t. refl; pending = refl }
+
+  pub view-looks : (s : Stream) (carried : List ℕ) (m : Module) (fs : List Frame) {r : Bool} {h : K .C .Slot} {p : Bool}
+      → Looks r h p (slotOf s (m .node))
+      → view s carried m fs ≡ viewOf (m .live) r h p (map (toFrame carried) fs) (notes s (m .log))
+  unfolding view
+  view-looks s carried m fs {r} {h} {p} k =
+      let x = slotOf s (m .node) in
+      ap (λ r. viewOf (m .live) r (K .held x) (x .pending .abort) (map (toFrame carried) fs) (notes s (m .log))) (k .receiver)
+      ∙ (ap (λ p. viewOf (m .live) r (K .held x) p (map (toFrame carried) fs) (notes s (m .log))) (k .pending)
+      ∙ go r (k .held))
+    where
+      go : (r : Bool) → (T r → K .held (slotOf s (m .node)) ≡ h)
+          → viewOf (m .live) r (K .held (slotOf s (m .node))) p (map (toFrame carried) fs) (notes s (m .log))
+          ≡ viewOf (m .live) r h p (map (toFrame carried) fs) (notes s (m .log))
+      go true e = ap (λ h. viewOf (m .live) true h p (map (toFrame carried) fs) (notes s (m .log))) (e tt)
+      go false e = refl
+
+  -- what the class says of a changed slot, where its stream and settings stay
+  pub shows-looks : (x y : Slot) {h : K .C .Slot} {p : Bool} → kindOf y ≡ kindOf x → Shows (K .held) h p y → Looks (isReceiver x) h p y
+  shows-looks x y kind s =
+      record { receiver = ap (λ (k : Kind). k .used && receives (k .settings)) kind; held = λ t. s .holds; pending = s .pends }
+
+  -- no class that carries data is plain
+  pub not-plain : {set : Settings} → OfClass n D set → isPlain set ≡ false
+  unfolding carries
+  not-plain {set} k = is-false (isPlain set) (λ t.
+      let zero-is : n ≡ 0 = sym (eqb→eq (set .class) n (k .class)) ∙ eqb→eq (set .class) 0 t in
+      true≢false (sym (subst (λ n. carries n 0 ≡ true) zero-is (K .carries 0 (omega arith)))))
+
+-- ── frames with the stream's identifiers ──
+pub stream-id : (s : Stream) (c : ℕ) → c ≤ 3 → streamOf (idOf s c) ≡ s
+stream-id s c h = same-stream (omega arith)
+
+pub code-id : (s : Stream) (c : ℕ) → c ≤ 3 → codeOf (idOf s c) ≡ c
+code-id s c h = omega arith
+
+-- data of at most eight bytes, or an empty frame
+pub good-frame : (s : Stream) (c : ℕ) (b : List ℕ) → s .0 ≤ maxStream → c ≤ 2 → length b ≤ maxPayload → (1 ≤ c → length b ≡ 0)
+    → badFrame (idOf s c) (length b) (length b) ≡ false
+unfolding badFrame
+good-frame s c b small code short bare = rw (low, few, equal, plain) refl
+  where
+    low : ltb maxBusId (idOf s c .0) ≡ false
+    low = is-false (ltb maxBusId (idOf s c .0)) (λ t. let h = ltb→lt maxBusId (idOf s c .0) t in omega arith)
+
+    few : ltb maxPayload (length b) ≡ false
+    few = is-false (ltb maxPayload (length b)) (λ t. let h = ltb→lt maxPayload (length b) t in omega arith)
+
+    equal : eqb (length b) (length b) ≡ true
+    equal = is-true (eqb (length b) (length b)) (eqb-refl (length b))
+
+    plain : unwantedPayload (idOf s c) (length b) ≡ false
+    plain = go (decLe 1 c)
+      where
+        go : Dec (1 ≤ c) → unwantedPayload (idOf s c) (length b) ≡ false
+        go (yes h) = rw (bare h) (none (eqb (codeOf (idOf s c)) 1 || eqb (codeOf (idOf s c)) 2))
+          where
+            none : (t : Bool) → (t && false) ≡ false
+            none true = refl
+            none false = refl
+        go (no h) =
+            let is-data : codeOf (idOf s c) ≡ 0 = omega arith in
+            rw is-data refl
+
+-- ── the node of a module ──
+module _ {n : ℕ} {D : OS.Delays} (K : ClassOnBench n D) (s : Stream) (node : Node) (k : Kept node)
+    (of : T (isReceiver (slotOf s node)) → OfClass n D (slotOf s node .settings)) where
+  abbrev x : Slot
+  x = slotOf s node
+
+  receiving : T (isReceiver x) → Receiving n D (node .counter) x
+  receiving r = record { receiver = r; settings = of r; kept = slot-kept s node k }
+
+  -- a receiver hears a good frame that does not clash
+  heard-slot : (c : ℕ) → c ≤ 2 → (b : List ℕ) → badFrame (idOf s c) (length b) (length b) ≡ false → T (isReceiver x)
+      → slotOf s (hearing (idOf s c) b node .node) ≡ cond (not (clashes c b x)) (heardBy (node .counter) c b x) x
+  heard-slot c code b good r =
+      subst (λ z. slotOf z (hearing (idOf s c) b node .node)
+      ≡ cond (takesCode z (codeOf (idOf s c))) (heardBy (node .counter) (codeOf (idOf s c)) b (slotOf z node)) (slotOf z node)) (stream-id s c (omega arith))
+      (hear-own (idOf s c) b node)
+      ∙ (ap (λ d. cond (takesCode s d) (heardBy (node .counter) d b x) x) (code-id s c (omega arith))
+      ∙ ap (λ t. cond t (heardBy (node .counter) c b x) x) taken)
+    where
+      takesCode : Stream → ℕ → Bool
+      takesCode z d =
+          not (badFrame (idOf s c) (length b) (length b))
+          && (isReceiver (slotOf z node) && (carries (slotOf z node .settings .class) d && not (clashes d b (slotOf z node))))
+
+      taken : takesCode s c ≡ not (clashes c b x)
+      taken =
+          let carried : carries (x .settings .class) c ≡ true =
+          subst (λ m. carries m c ≡ true) (sym (eqb→eq (x .settings .class) n (of r .class))) (K .carries c code) in
+          rw (good, is-true (isReceiver x) r, carried) refl
+
+  heard-looks : (c : ℕ) → c ≤ 2 → (b : List ℕ) → badFrame (idOf s c) (length b) (length b) ≡ false → T (isReceiver x)
+      → {h : K .C .Slot} {p : Bool} → Shows (K .held) h p (cond (not (clashes c b x)) (heardBy (node .counter) c b x) x)
+      → Looks K (isReceiver x) h p (slotOf s (hearing (idOf s c) b node .node))
+  heard-looks c code b good r {h} {p} shows =
+      shows-looks K x (slotOf s (hearing (idOf s c) b node .node)) (hear-kind s (idOf s c) b node)
+      (subst (Shows (K .held) h p) (sym (heard-slot c code b good r)) shows)
+
+  module _ (small : s .0 ≤ maxStream) (r : T (isReceiver x)) where
+    pub heard-data : (b : List ℕ) → length b ≤ maxPayload
+        → Looks K (isReceiver x) (K .C .onData (node .counter) b (K .held x)) (x .pending .abort) (slotOf s (hearing (idOf s 0) b node .node))
+    heard-data b short =
+        heard-looks 0 (omega arith) b (good-frame s 0 b small (omega arith) short (λ c. let z : ⊥ = omega arith in absurd z)) r
+        (K .onData (node .counter) x (receiving r) b)
+
+    pub heard-conf : Looks K (isReceiver x) (K .C .onConf (K .held x)) (x .pending .abort || K .C .refuses (K .held x))
+        (slotOf s (hearing (idOf s 1) [] node .node))
+    heard-conf =
+        heard-looks 1 (omega arith) [] (good-frame s 1 [] small (omega arith) (omega arith) (λ c. refl)) r (K .onConf (node .counter) x (receiving r))
+
+    pub heard-code2 : (p : List ℕ) → length p ≤ maxPayload → (let b = K .C .carried p in
+        Looks K (isReceiver x) (K .C .onCode2 (node .counter) b (K .held x)) (x .pending .abort) (slotOf s (hearing (idOf s 2) b node .node)))
+    heard-code2 p short = heard-looks 2 (omega arith) (K .C .carried p) (K .good s small p short) r (K .onCode2 (node .counter) x (receiving r) p)
+
+  -- ── a tick ──
+  abbrev t : ℕ
+  t = node .counter + 1
+
+  pub ticked-receiver : T (isReceiver x)
+      → Looks K (isReceiver x) (K .C .onTick t (K .held x)) (x .pending .abort || K .C .late t (K .held x)) (slotOf s (ticking node .node))
+  ticked-receiver r =
+      shows-looks K x (slotOf s (ticking node .node)) (tick-kind s node)
+      (subst (Shows (K .held) (K .C .onTick t (K .held x)) (x .pending .abort || K .C .late t (K .held x))) (sym (tick-slot s node))
+      (K .onTick (node .counter) x (receiving r)))
+
+  not-late-due : isReceiver x ≡ false → (age : ℕ) → (late age x ≡ false) × (due age x ≡ false)
+  unfolding late due
+  not-late-due e age = (rw e refl, rw e refl)
+
+  -- where the stream is not received a hold may end, and no more
+  pub ticked-other : isReceiver x ≡ false → Looks K (isReceiver x) (K .held x) (x .pending .abort) (slotOf s (ticking node .node))
+  unfolding lapsed
+  ticked-other e = subst (Looks K (isReceiver x) (K .held x) (x .pending .abort)) (sym (tick-slot s node)) (go (holdOver (t - x .message .stamp) x) refl)
+    where
+      go : (o : Bool) → holdOver (t - x .message .stamp) x ≡ o
+          → Looks K (isReceiver x) (K .held x) (x .pending .abort) (tickSlot unbounded t x)
+      go true eh =
+          let z = not-late-due e (t - x .message .stamp) in
+          record { receiver = rw (z .0, z .1, eh) refl; held = λ y. absurd (not-so e y); pending = rw (z .0, z .1, eh) refl }
+      go false eh =
+          let z = not-late-due e (t - x .message .stamp) in
+          record { receiver = rw (z .0, z .1, eh) refl; held = λ y. absurd (not-so e y); pending = rw (z .0, z .1, eh) refl }
+
+  pub ticked-log : T (isReceiver x) → (log : List Delivery)
+      → notes s (onto (deliveries unbounded node) log)
+      ≡ cond (K .C .due t (K .held x)) (record { at = t; bytes = K .C .held (K .held x) } ∷ notes s log) (notes s log)
+  ticked-log r log =
+      ap (map toNote) (tick-delivers s node k log)
+      ∙ (ap (λ d. map toNote (cond d (deliveryOf t x ∷ onStream s log) (onStream s log))) (K .due (node .counter) x (receiving r))
+      ∙ go (K .C .due t (K .held x)) (λ y. y))
+    where
+      go : (d : Bool) → (T d → T (K .C .due t (K .held x)))
+          → map toNote (cond d (deliveryOf t x ∷ onStream s log) (onStream s log))
+          ≡ cond d (record { at = t; bytes = K .C .held (K .held x) } ∷ notes s log) (notes s log)
+      go true f = ap (λ y. record { at = t; bytes = y } ∷ notes s log) (K .delivers (node .counter) x (receiving r) (f tt))
+      go false f = refl
+
+  pub ticked-log-other : isReceiver x ≡ false → (log : List Delivery) → notes s (onto (deliveries unbounded node) log) ≡ notes s log
+  ticked-log-other e log =
+      ap (map toNote) (tick-delivers s node k log)
+      ∙ ap (λ d. map toNote (cond d (deliveryOf t x ∷ onStream s log) (onStream s log))) (not-late-due e (t - x .message .stamp) .1)

@@ -1,0 +1,133 @@
+-- The ways through the calls of the bench in code: what each return leaves is what the definition says.
+use mathlib.Core.Path.{_≡_, sym, ap, _∙_}
+use mathlib.Core.Bool.{Bool, true, false, not, _&&_}
+use mathlib.Core.List.{List}
+use Prim.Native.Nat.{ℕ, _≤_, _<_}
+use native.Mathlib.Omega.{arith}
+use lib.ListN.{length, getD, set, replicate, take, drop, take-append-drop}
+use lib.Seq.{take-append-seam}
+use borrow.Author.Tests.{le-leb, lt-leb}
+use Rattle.wire.specs.declared.reply.Reply.the-variants.{Done}
+use Rattle.wire.specs.Frames.{maxPayload}
+use Rattle.wire.specs.Delivered.{over}
+use Rattle.node.specs.declared.Answered.{Answered}
+use Rattle.node.specs.declared.Delivered.{Delivered}
+use Rattle.node.specs.declared.Given.{Given}
+use Rattle.node.specs.Nodes.{answered, delivered, given}
+use Rattle.node.specs.Clock.{rolled}
+use Rattle.node.specs.Calls.{Call, outcome, tick, hear}
+use Rattle.bench_in_code.specs.declared.stations.Station.{Station}
+use Rattle.bench_in_code.specs.declared.outbox.Frame.{Frame}
+use Rattle.bench_in_code.specs.declared.outbox.Frames.{Frames}
+use Rattle.bench_in_code.specs.declared.Bench.{Bench}
+use Rattle.bench_in_code.specs.declared.Giving.the-variants.{Dead, Nothing, Full, Out}
+use Rattle.bench.specs.SetUp.{isDone}
+use Rattle.bench.specs.Bench as history
+use Rattle.bench.specs.Events.{lent, withNode}
+use Rattle.bench_in_code.specs.InCode.{nobody, shown, kept, silence, answeredTurn, tickTurn, hearTurn, payloadOf, moduleIn, isLiveIn, callIn, onModule}
+use Rattle.bench_in_code.specs.InCode.{asked, next, givingOf, withFrame, notGiven, capacity}
+use Rattle.bench.proofs.laws.ListPlaces.{nth-inside, nth-past, at-inside, at-past}
+
+-- ── one module of the bench ──
+module _ (b : Bench) (eight : length (b .modules) ≡ 8) (who : ℕ) where
+  module _ (past : 8 ≤ who) where
+    pub past-is-dead : false ≡ isLiveIn who b
+    past-is-dead = ap (λ (m : Station). m .live) (sym (nth-past nobody who (b .modules) (omega (arith, eight))))
+
+    pub past-stays : (change : history.Module → history.Module) → b ≡ onModule change who b
+    past-stays change =
+        ap (λ (ms : List Station). record { modules = ms })
+        (sym (at-past (λ (m : Station). kept (change (shown m))) who (b .modules) (omega (arith, eight))))
+
+  module _ (inside : who < 8) (d : Station) where
+    pub read-is : getD (b .modules) who d ≡ moduleIn who b
+    read-is = nth-inside d nobody who (b .modules) (omega (arith, eight))
+
+    pub read-live : getD (b .modules) who d .live ≡ isLiveIn who b
+    read-live = ap (λ (m : Station). m .live) read-is
+
+    pub stored : (change : history.Module → history.Module) (m : Station) → m ≡ kept (change (shown (getD (b .modules) who d)))
+        → record { modules = set (b .modules) who m } ≡ onModule change who b
+    stored change m e =
+        ap (λ (ms : List Station). record { modules = ms })
+        (rw (e, read-is) (at-inside (λ (m : Station). kept (change (shown m))) nobody who (b .modules) (omega (arith, eight))))
+
+    -- a call on its node
+    pub answers-there : (there : Bool) → there ≡ true → (c : Call) (a : Answered)
+        → a ≡ answered (outcome rolled c (getD (b .modules) who d .node)) → (m : Station)
+        → m ≡ kept (withNode (a .node) (shown (getD (b .modules) who d)))
+        → record { bench = record { modules = set (b .modules) who m }; there = true; reply = a .reply } ≡ asked there c who b
+    unfolding asked
+    answers-there there t c a e m e′ =
+        let a-is : a ≡ answered (callIn c who b) = e ∙ ap (λ (m : Station). answered (outcome rolled c (m .node))) read-is in
+        let bench = stored (withNode (a .node)) m e′ in
+        rw (t, bench, a-is)
+
+pub nobody-answers : (there : Bool) → there ≡ false → (c : Call) (who : ℕ) (b : Bench)
+    → record { bench = b; there = false; reply = Done } ≡ asked there c who b
+unfolding asked
+nobody-answers there t c who b = rw t
+
+-- ── a module's turn ──
+pub dead-at-tick : (m : Station) → m .live ≡ false → record { after = m; said = silence } ≡ tickTurn m
+dead-at-tick m e = rw e
+
+pub live-at-tick : (m : Station) → m .live ≡ true → (a : Delivered) (out : List ℕ)
+    → a ≡ delivered (outcome rolled (tick lent) (m .node)) → out ≡ over (outcome rolled (tick lent) (m .node) .bytes) lent
+    → answeredTurn a out m ≡ tickTurn m
+live-at-tick m e a out a-is out-is = rw (a-is, out-is, e)
+
+module _ (named own : Bool) (f : Frame) (m : Station) where
+  pub not-reached : (m .live && named && not own) ≡ false → record { after = m; said = silence } ≡ hearTurn named own f m
+  not-reached e = rw e
+
+  pub reached : (m .live && named && not own) ≡ true → (a : Delivered) (out : List ℕ) (n : ℕ) (p : List ℕ) → n ≡ length p → p ≡ payloadOf f
+      → a ≡ delivered (outcome rolled (hear (f .id) n p lent) (m .node)) → out ≡ over (outcome rolled (hear (f .id) n p lent) (m .node) .bytes) lent
+      → answeredTurn a out m ≡ hearTurn named own f m
+  reached e a out n p n-is p-is a-is out-is = rw (a-is, out-is, n-is, p-is, e)
+
+-- ── the payload of a frame ──
+pub as-many-bytes : (f : Frame) (n : ℕ) → n ≡ length (payloadOf f) → take n (f .bytes) ≡ payloadOf f
+as-many-bytes f n e =
+    rw e
+    (ap (take (length (payloadOf f))) (sym (take-append-drop (f .len) (f .bytes))) ∙ take-append-seam (payloadOf f) (drop (f .len) (f .bytes)))
+
+-- ── giving out ──
+module _ (b : Bench) (eight : length (b .modules) ≡ 8) (who : ℕ) (fs : Frames) where
+  pub dead-gives-nothing : isLiveIn who b ≡ false → notGiven Dead fs b ≡ givingOf who fs b
+  unfolding givingOf
+  dead-gives-nothing e = rw e
+
+  module _ (live : isLiveIn who b ≡ true) (inside : who < 8) (d : Station) (a : Given)
+      (a-is : a ≡ given (outcome rolled next (getD (b .modules) who d .node))) where
+    by-outcome : a ≡ given (callIn next who b)
+    by-outcome = a-is ∙ ap (λ (m : Station). given (outcome rolled next (m .node))) (read-is b eight who inside d)
+
+    is-done : (t : Bool) → isDone (a .reply) ≡ t → isDone (callIn next who b .reply) ≡ t
+    is-done t e = ap (λ (g : Given). isDone (g .reply)) (sym by-outcome) ∙ e
+
+    pub nothing-to-give : isDone (a .reply) ≡ false → notGiven Nothing fs b ≡ givingOf who fs b
+    unfolding givingOf
+    nothing-to-give e = rw (live, is-done false e)
+
+    pub no-room : isDone (a .reply) ≡ true → capacity ≤ fs .count → notGiven Full fs b ≡ givingOf who fs b
+    unfolding givingOf
+    no-room e full = rw (live, is-done true e, le-leb capacity (fs .count) full)
+
+    pub gives-out : isDone (a .reply) ≡ true → fs .count < capacity → (out : List ℕ)
+        → out ≡ over (outcome rolled next (getD (b .modules) who d .node) .bytes) (replicate maxPayload 0)
+        → (m : Station) → m ≡ kept (withNode (a .node) (shown (getD (b .modules) who d)))
+        → (fs′ : Frames) → fs′ ≡ withFrame (record { owner = who; id = a .id; len = a .len; bytes = out }) fs
+        → record {
+          bench = record { modules = set (b .modules) who m };
+          frames = fs′;
+          giving = Out;
+          frame = record { owner = who; id = a .id; len = a .len; bytes = out };
+        }
+        ≡ givingOf who fs b
+    unfolding givingOf
+    gives-out e room out out-is m m-is fs′ fs′-is =
+        let out-is′ : out ≡ over (callIn next who b .bytes) (replicate maxPayload 0) =
+        out-is ∙ ap (λ (m : Station). over (outcome rolled next (m .node) .bytes) (replicate maxPayload 0)) (read-is b eight who inside d) in
+        let bench = stored b eight who inside d (withNode (a .node)) m m-is in
+        rw (live, is-done true e, lt-leb capacity (fs .count) room, fs′-is, bench, by-outcome, out-is′)

@@ -1,0 +1,3 @@
+pub mod InCode
+pub mod InStep
+pub mod Runs

@@ -1,0 +1,3 @@
+-- Laws that hearing a frame rests on.
+pub mod Cases
+pub mod Ways

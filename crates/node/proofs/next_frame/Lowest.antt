@@ -1,0 +1,244 @@
+-- The lowest of all pending bus identifiers: it is one of them, none is lower, and where none is pending there is none.
+use mathlib.Core.Path.{_≡_, refl, sym, ap}
+use mathlib.Core.Bool.{Bool, true, false, cond, not, _&&_, _||_}
+use mathlib.Core.List.{List, [], _∷_, _++_}
+use mathlib.Core.List.{List·Memᴰ, List·Memᴰ·head, List·Memᴰ·tail, List·Memᴰ·not-nil, List·Memᴰ·cases-cons}
+use mathlib.Core.List.{List·Memᴰ·append-cases, List·Memᴰ·eq-of-singleton, Memᴰ·cast}
+use mathlib.Core.Logic.{_⊎_, inl, inr, ⊎-elim}
+use Prim.Native.Nat.{ℕ, _+_, _*_, _/_, _≤_, _<_, min}
+use native.Mathlib.Omega.{arith}
+use lib.Dec.{leb, ltb}
+use lib.ListN.{length}
+use borrow.Author.Tests.{leb-true, leb-false, le-leb, lt-leb, le-ltb, eq-eqb}
+use Rattle.wire.specs.Identifiers.{maxStream, maxBusId, maxCode, streamOf, join}
+use Rattle.wire.specs.Settings.{isPlain}
+use Rattle.wire.specs.declared.reply.Reply.the-variants.{ShortOutput, Nothing}
+use Rattle.node.specs.declared.slots.Slot.{Slot}
+use Rattle.node.specs.declared.Node.{Node}
+use Rattle.node.specs.Slots.{isOf, some}
+use Rattle.node.specs.Nodes.{Refusals, unlessRefused}
+use Rattle.node.specs.NextFrame.{nextRoom, payloadCode, one, pendingCodes, idsFrom, pendingIn, pendingIds, give, nextRefusals, nextFrame, isNone, lowest}
+use Rattle.node.specs.Selection.{lowestOrAbove}
+use Rattle.node.proofs.Choices.{contrary}
+
+-- ── of any identifiers ──
+pub lowest-at-most : (l : List ℕ) → lowestOrAbove l ≤ maxBusId + 1
+unfolding lowestOrAbove
+lowest-at-most [] = omega arith
+lowest-at-most (i ∷ is) = let h = lowest-at-most is in omega arith
+
+pub lowest-append : (a b : List ℕ) → lowestOrAbove (a ++ b) ≡ min (lowestOrAbove a) (lowestOrAbove b)
+unfolding lowestOrAbove
+lowest-append [] b = let h = lowest-at-most b in omega arith
+lowest-append (i ∷ a) b = let h = lowest-append a b in omega arith
+
+pub none-lower : (l : List ℕ) {i : ℕ} → List·Memᴰ i l → lowestOrAbove l ≤ i
+unfolding lowestOrAbove
+none-lower [] m = absurd (List·Memᴰ·not-nil m)
+none-lower (j ∷ l) {i} m = go (none-lower l) (List·Memᴰ·cases-cons m)
+  where
+    go : (List·Memᴰ i l → lowestOrAbove l ≤ i) → (i ≡ j) ⊎ List·Memᴰ i l → min j (lowestOrAbove l) ≤ i
+    go rest (inl e) = omega arith
+    go rest (inr below) = omega (arith, rest below)
+
+pub lowest-is-one : (l : List ℕ) → lowestOrAbove l ≤ maxBusId → List·Memᴰ (lowestOrAbove l) l
+unfolding lowestOrAbove
+lowest-is-one [] h = absurd (omega arith)
+lowest-is-one (i ∷ l) h = go (leb i (lowestOrAbove l)) refl (lowest-is-one l)
+  where
+    go : (t : Bool) → leb i (lowestOrAbove l) ≡ t → (lowestOrAbove l ≤ maxBusId → List·Memᴰ (lowestOrAbove l) l) → List·Memᴰ (min i (lowestOrAbove l)) (i ∷ l)
+    go true e rest =
+        let at-most = leb-true i (lowestOrAbove l) e in
+        let same : min i (lowestOrAbove l) ≡ i = omega arith in
+        List·Memᴰ·head same
+    go false e rest =
+        let above = leb-false i (lowestOrAbove l) e in
+        let same : min i (lowestOrAbove l) ≡ lowestOrAbove l = omega arith in
+        List·Memᴰ·tail (Memᴰ·cast same (rest (omega arith)))
+
+-- ── of a slot's codes ──
+one-code : (t : Bool) (code : ℕ) {c : ℕ} → List·Memᴰ c (one t code) → c ≡ code
+one-code true code m = List·Memᴰ·eq-of-singleton m
+one-code false code m = absurd (List·Memᴰ·not-nil m)
+
+payload-code : (t : Bool) → cond t 3 0 ≤ 3
+payload-code true = omega arith
+payload-code false = omega arith
+
+code-at-most-three : (x : Slot) (c : ℕ) → List·Memᴰ c (pendingCodes x) → c ≤ 3
+code-at-most-three x c m =
+    let p = x .pending in
+    ⊎-elim
+    (λ (others : List·Memᴰ c (one (p .payload) (payloadCode x) ++ one (p .confirmation) 1)).
+    ⊎-elim
+    (λ (m : List·Memᴰ c (one (p .payload) (payloadCode x))).
+    omega (arith, one-code (p .payload) (payloadCode x) m, payload-code (isPlain (x .settings))))
+    (λ (m : List·Memᴰ c (one (p .confirmation) 1)). omega (arith, one-code (p .confirmation) 1 m))
+    (List·Memᴰ·append-cases (one (p .payload) (payloadCode x)) others))
+    (λ (m : List·Memᴰ c (one (p .abort) 2)). omega (arith, one-code (p .abort) 2 m))
+    (List·Memᴰ·append-cases (one (p .payload) (payloadCode x) ++ one (p .confirmation) 1) m)
+
+-- the frames tried by ascending code
+abbrev pub firstCode : (plain payload confirmation abort : Bool) → ℕ
+firstCode plain payload confirmation abort =
+    cond (not (payload || confirmation || abort)) (maxBusId + 1)
+    (cond (payload && not plain) 0 (cond confirmation 1 (cond abort 2 3)))
+
+by-flags : (plain payload confirmation abort : Bool)
+    → lowestOrAbove (one payload (cond plain 3 0) ++ one confirmation 1 ++ one abort 2) ≡ firstCode plain payload confirmation abort
+unfolding lowestOrAbove
+by-flags false false false false = refl
+by-flags false false false true = refl
+by-flags false false true false = refl
+by-flags false false true true = refl
+by-flags false true false false = refl
+by-flags false true false true = refl
+by-flags false true true false = refl
+by-flags false true true true = refl
+by-flags true false false false = refl
+by-flags true false false true = refl
+by-flags true false true false = refl
+by-flags true false true true = refl
+by-flags true true false false = refl
+by-flags true true false true = refl
+by-flags true true true false = refl
+by-flags true true true true = refl
+
+pub lowest-code : (x : Slot)
+    → lowestOrAbove (pendingCodes x) ≡ firstCode (isPlain (x .settings)) (x .pending .payload) (x .pending .confirmation) (x .pending .abort)
+lowest-code x = by-flags (isPlain (x .settings)) (x .pending .payload) (x .pending .confirmation) (x .pending .abort)
+
+code-or-none : (x : Slot) → 3 < lowestOrAbove (pendingCodes x) → lowestOrAbove (pendingCodes x) ≡ maxBusId + 1
+code-or-none x h = go (leb (lowestOrAbove (pendingCodes x)) maxBusId) refl
+  where
+    go : (t : Bool) → leb (lowestOrAbove (pendingCodes x)) maxBusId ≡ t → lowestOrAbove (pendingCodes x) ≡ maxBusId + 1
+    go true e =
+        let one-of-them = lowest-is-one (pendingCodes x) (leb-true (lowestOrAbove (pendingCodes x)) maxBusId e) in
+        absurd (omega (arith, code-at-most-three x (lowestOrAbove (pendingCodes x)) one-of-them))
+    go false e = omega (arith, lowest-at-most (pendingCodes x), leb-false (lowestOrAbove (pendingCodes x)) maxBusId e)
+
+-- ── of a slot's identifiers ──
+lowest-ids : (stream : ℕ) (codes : List ℕ) → lowestOrAbove (idsFrom stream codes) ≡ min (stream * 4 + lowestOrAbove codes) (maxBusId + 1)
+unfolding lowestOrAbove
+lowest-ids stream [] = omega arith
+lowest-ids stream (code ∷ codes) = let h = lowest-ids stream codes in omega arith
+
+module _ (x : Slot) where
+  -- by whether the slot is set up with a number that is a stream's
+  lowest-by : Bool → ℕ
+  lowest-by stream = cond stream (min (x .stream .0 * 4 + lowestOrAbove (pendingCodes x)) (maxBusId + 1)) (maxBusId + 1)
+
+  in-slot : lowestOrAbove (pendingIn x) ≡ lowest-by (x .used && leb (x .stream .0) maxStream)
+  unfolding pendingIn lowestOrAbove lowest-by
+  in-slot = go (x .used && leb (x .stream .0) maxStream)
+    where
+      go : (t : Bool) → lowestOrAbove (cond t (idsFrom (x .stream .0) (pendingCodes x)) []) ≡ lowest-by t
+      go true = lowest-ids (x .stream .0) (pendingCodes x)
+      go false = refl
+
+  pub not-set-up : x .used ≡ false → maxBusId + 1 ≡ lowestOrAbove (pendingIn x)
+  unfolding lowest-by
+  not-set-up e = rw (in-slot, e)
+
+  pub no-stream : x .used ≡ true → maxStream < x .stream .0 → maxBusId + 1 ≡ lowestOrAbove (pendingIn x)
+  unfolding lowest-by
+  no-stream e h = rw (in-slot, e, lt-leb (x .stream .0) maxStream h)
+
+  pub no-code : 3 < lowestOrAbove (pendingCodes x) → maxBusId + 1 ≡ lowestOrAbove (pendingIn x)
+  unfolding lowest-by
+  no-code h = rw in-slot (go (x .used && leb (x .stream .0) maxStream))
+    where
+      go : (t : Bool) → maxBusId + 1 ≡ lowest-by t
+      go true = omega (arith, code-or-none x h)
+      go false = refl
+
+  pub joined-code : (code : ℕ) → code ≡ lowestOrAbove (pendingCodes x) → code ≤ maxCode → x .used ≡ true → x .stream .0 ≤ maxStream
+      → join (x .stream) code .id ≡ record { 0 = lowestOrAbove (pendingIn x) }
+  unfolding lowest-by join
+  joined-code code is-lowest small used stream =
+      let in-range : min (x .stream .0 * 4 + code) (maxBusId + 1) ≡ x .stream .0 * 4 + code = omega arith in
+      rw (in-slot, used, le-leb (x .stream .0) maxStream stream, le-leb code maxCode small, ← is-lowest, in-range)
+
+-- ── where a pending identifier comes from ──
+from-codes : (stream : ℕ) (codes : List ℕ) (i : ℕ) → ((c : ℕ) → List·Memᴰ c codes → c ≤ 3) → List·Memᴰ i (idsFrom stream codes)
+    → (stream * 4 ≤ i) × (i ≤ stream * 4 + 3)
+from-codes stream [] i small m = absurd (List·Memᴰ·not-nil m)
+from-codes stream (code ∷ codes) i small m =
+    ⊎-elim
+    (λ (e : i ≡ stream * 4 + code). let h = small code (List·Memᴰ·head refl) in (omega arith, omega arith))
+    (λ (rest : List·Memᴰ i (idsFrom stream codes)). from-codes stream codes i (λ c m. small c (List·Memᴰ·tail m)) rest)
+    (List·Memᴰ·cases-cons m)
+
+-- a pending identifier is in range, and its stream has a slot
+pub record FromSlot (i : ℕ) (x : Slot) : Type 0 where
+  pub in-range : i ≤ maxBusId
+  pub of-stream : isOf (streamOf (record { 0 = i })) x ≡ true
+
+pub pending-from-slot : (x : Slot) {i : ℕ} → List·Memᴰ i (pendingIn x) → FromSlot i x
+unfolding pendingIn
+pending-from-slot x {i} m = go (x .used) refl (leb (x .stream .0) maxStream) refl m
+  where
+    go : (used : Bool) → x .used ≡ used → (small : Bool) → leb (x .stream .0) maxStream ≡ small
+        → List·Memᴰ i (cond (used && small) (idsFrom (x .stream .0) (pendingCodes x)) []) → FromSlot i x
+    go true u true s m =
+        let range = from-codes (x .stream .0) (pendingCodes x) i (code-at-most-three x) m in
+        let small = leb-true (x .stream .0) maxStream s in
+        let stream : x .stream .0 ≡ i / 4 = omega arith in
+        record { in-range = omega arith; of-stream = rw (u, eq-eqb (x .stream .0) (i / 4) stream) }
+    go true u false s m = absurd (List·Memᴰ·not-nil m)
+    go false u small s m = absurd (List·Memᴰ·not-nil m)
+
+or-true : (a b : Bool) → b ≡ true → (a || b) ≡ true
+or-true true b e = refl
+or-true false b e = e
+
+pub pending-in-range : (slots : List Slot) {i : ℕ} → List·Memᴰ i (pendingIds slots) → i ≤ maxBusId
+unfolding pendingIds
+pending-in-range [] m = absurd (List·Memᴰ·not-nil m)
+pending-in-range (x ∷ xs) {i} m =
+    ⊎-elim
+    (λ (here : List·Memᴰ i (pendingIn x)). pending-from-slot x here .in-range)
+    (λ (there : List·Memᴰ i (pendingIds xs)). pending-in-range xs there)
+    (List·Memᴰ·append-cases (pendingIn x) m)
+
+pub pending-has-slot : (slots : List Slot) {i : ℕ} → List·Memᴰ i (pendingIds slots) → some (isOf (streamOf (record { 0 = i }))) slots ≡ true
+unfolding pendingIds some
+pending-has-slot [] m = absurd (List·Memᴰ·not-nil m)
+pending-has-slot (x ∷ xs) {i} m =
+    ⊎-elim
+    (λ (here : List·Memᴰ i (pendingIn x)). rw (pending-from-slot x here .of-stream))
+    (λ (there : List·Memᴰ i (pendingIds xs)). or-true (isOf (streamOf (record { 0 = i })) x) _ (pending-has-slot xs there))
+    (List·Memᴰ·append-cases (pendingIn x) m)
+
+-- ── the definition, by the lowest or above ──
+abbrev pub refusalsByLowest : (output : List ℕ) → (low : ℕ) → Refusals
+refusalsByLowest output low =
+    (ShortOutput, ltb (length output) nextRoom)
+    ∷ (Nothing, ltb maxBusId low)
+    ∷ []
+
+none-same : (ids : List ℕ) → ((i : ℕ) → List·Memᴰ i ids → i ≤ maxBusId) → isNone ids ≡ ltb maxBusId (lowestOrAbove ids)
+unfolding lowestOrAbove
+none-same [] small = refl
+none-same (i ∷ ids) small = sym (le-ltb maxBusId (min i (lowestOrAbove ids)) (omega (arith, small i (List·Memᴰ·head refl))))
+
+lowest-same : (ids : List ℕ) → ((i : ℕ) → List·Memᴰ i ids → i ≤ maxBusId) → isNone ids ≡ false → lowest ids ≡ lowestOrAbove ids
+unfolding lowest lowestOrAbove
+lowest-same [] small some = absurd (contrary refl some)
+lowest-same (i ∷ []) small some = omega (arith, small i (List·Memᴰ·head refl))
+lowest-same (i ∷ j ∷ is) small some = ap (min i) (lowest-same (j ∷ is) (λ k m. small k (List·Memᴰ·tail m)) refl)
+
+pub next-by-lowest : (output : List ℕ) (n : Node)
+    → let low = lowestOrAbove (pendingIds (n .slots)) in
+    nextFrame output n ≡ unlessRefused n (refusalsByLowest output low) (give (record { 0 = low }) n)
+unfolding nextFrame
+next-by-lowest output n = go (isNone (pendingIds (n .slots))) refl
+  where
+    small : (i : ℕ) → List·Memᴰ i (pendingIds (n .slots)) → i ≤ maxBusId
+    small i m = pending-in-range (n .slots) m
+
+    go : (t : Bool) → isNone (pendingIds (n .slots)) ≡ t
+        → unlessRefused n (nextRefusals output (pendingIds (n .slots))) (give (record { 0 = lowest (pendingIds (n .slots)) }) n)
+        ≡ unlessRefused n (refusalsByLowest output (lowestOrAbove (pendingIds (n .slots)))) (give (record { 0 = lowestOrAbove (pendingIds (n .slots)) }) n)
+    go true e = rw (← (none-same (pendingIds (n .slots)) small), e)
+    go false e = rw (← (none-same (pendingIds (n .slots)) small), e, lowest-same (pendingIds (n .slots)) small e)

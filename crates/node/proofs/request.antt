@@ -1,0 +1,3 @@
+-- Laws that a request rests on.
+pub mod Cases
+pub mod Ways

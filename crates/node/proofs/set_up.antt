@@ -1,0 +1,3 @@
+-- Laws that setting up a stream rests on.
+pub mod Cases
+pub mod Ways

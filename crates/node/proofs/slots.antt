@@ -1,0 +1,6 @@
+-- Laws of slots, of the table of them, and of payloads.
+pub mod Table
+pub mod Streams
+pub mod Finding
+pub mod Downward
+pub mod Payloads

@@ -1,0 +1,51 @@
+-- The outcomes of a tick, from what its code did.
+use mathlib.Core.Path.{_≡_}
+use mathlib.Core.Bool.{false}
+use mathlib.Core.List.{List, map}
+use Prim.Native.Nat.{ℕ, _<_, _≤_}
+use borrow.Author.Tests.{lt-ltb}
+use lib.ListN.{length}
+use Rattle.wire.specs.declared.reply.Reply.the-variants.{Done, ShortOutput}
+use Rattle.wire.specs.Delivered.{over}
+use Rattle.node.specs.declared.Node.{Node}
+use Rattle.node.specs.declared.Delivered.{Delivered}
+use Rattle.node.specs.Slots.{some}
+use Rattle.node.specs.Nodes.{done, delivered}
+use Rattle.node.specs.Clock.{Clock, rolled}
+use Rattle.node.specs.Tick.{tickRoom, tickSlot, dueSlots, recordsFrom, ticked, tick}
+use Rattle.node.specs.Calls.{Call}
+use Rattle.node.proofs.Cases.{here}
+use Rattle.node.proofs.tick.Cases.{tick-cases}
+use Rattle.node.proofs.rollover.Promises.{PromisedWritten, promised-exact}
+use Rattle.node.proofs.tick.Loops.{stirsAt, still-tick}
+
+-- the answer, and what stands in the output, are those of the definition
+abbrev pub Ticked : Clock → Node → (output : List ℕ) → Delivered → (left : List ℕ) → Type 0
+Ticked clock n output r left =
+    (r ≡ delivered (tick clock output n)) × (left ≡ over (tick clock output n .bytes) output)
+
+-- what holds with counts that roll over holds with counts without bound too
+pub exact-and-unbounded : (n : Node) (output : List ℕ) (r : Delivered) (left : List ℕ) → Ticked rolled n output r left
+    → PromisedWritten (Call.tick output) n delivered output r left
+exact-and-unbounded n output r left t = promised-exact (Call.tick output) n delivered output t
+
+module _ (clock : Clock) (n : Node) (output : List ℕ) where
+  pub tick-refused : length output < tickRoom → Ticked clock n output (record { node = n; reply = ShortOutput; written = 0 }) output
+  tick-refused h = let t = tick-cases output clock n .refused-if ShortOutput (here (lt-ltb _ _ h)) in (rw t, rw t)
+
+  module _ (room : tickRoom ≤ length output) (now : ℕ) (e : now ≡ clock .next (n .counter)) where
+    taken : tick clock output n ≡ done (ticked clock n) (recordsFrom (dueSlots clock (clock .next (n .counter)) (n .slots)))
+    taken = tick-cases output clock n .accepted-if (record { room = room })
+
+    pub tick-done : (node : Node) (written : ℕ) (left : List ℕ)
+        → node ≡ record { slots = map (tickSlot clock now) (n .slots); counter = now }
+        → (written ≡ length (recordsFrom (dueSlots clock now (n .slots)))) × (left ≡ over (recordsFrom (dueSlots clock now (n .slots))) output)
+        → Ticked clock n output (record { node = node; reply = Done; written = written }) left
+    tick-done node written left s w = (rw (taken, ← e, s, w .0), rw (taken, ← e) (w .1))
+
+    pub tick-still : some (stirsAt clock now) (n .slots) ≡ false
+        → Ticked clock n output (record { node = record { slots = n .slots; counter = now }; reply = Done; written = 0 }) output
+    unfolding recordsFrom
+    tick-still s =
+        let still = still-tick clock now (n .slots) s in
+        (rw (taken, ← e, still .0, still .1), rw (taken, ← e, still .1))

@@ -1,0 +1,122 @@
+// A request to send.
+use crate::Answered;
+use crate::Node;
+use crate::slots::Message;
+use crate::slots::Pending;
+use crate::slots::Slot;
+use crate::slots::pad;
+use wire::ids::Stream;
+use wire::reply::Reply;
+use wire::settings::Settings;
+ghost use mathlib.Core.Path.{_≡_};
+ghost use mathlib.Core.Bool.{cond};
+ghost use mathlib.Core.List.{List};
+ghost use Prim.Native.Nat.{_≤_};
+ghost use lib.ListN.{length};
+ghost use Rattle.wire.specs.Frames.{maxPayload};
+ghost use Rattle.node.specs.Slots.{holding, keeping};
+ghost use Rattle.node.specs.Nodes.{answered};
+ghost use Rattle.node.specs.Request.{busy, requested, request};
+ghost use Rattle.node.specs.Clock.{rolled, unbounded};
+ghost use Rattle.node.specs.Calls.{Call, after, rollOutcome};
+
+impl Slot {
+    // Whether the slot is held or has a frame pending.
+    pub fn is_busy(self) -> bool
+        ensures { λ r. ⌜ r ≡ busy self ⌝ }
+    {
+        let p = self.pending;
+        self.message.held | p.any()
+    }
+
+    // The slot once its stream is to send this payload.
+    fn requested(mut self, counter: u16, payload: &[u8]) -> Slot
+        requires { ⌜ length (now payload) ≤ maxPayload ⌝ }
+        ensures { λ r. ⌜ r ≡ requested counter (now (payload .entry)) self ⌝ }
+    {
+        let m = message_for(self.settings.class == Settings::PLAIN, counter, payload);
+        let p = Pending {
+            payload: true,
+            confirmation: self.settings.class == Settings::TWO_MESSAGE,
+            abort: false,
+        };
+        self.message = m;
+        self.pending = p;
+        self
+    }
+}
+
+// The message of a request: a plain one is not held.
+fn message_for(plain: bool, counter: u16, payload: &[u8]) -> Message
+    requires { ⌜ length (now payload) ≤ maxPayload ⌝ }
+    ensures { λ r. ⌜ r ≡ cond plain (keeping (now (payload .entry))) (holding counter (now (payload .entry))) ⌝ }
+{
+    let len = payload.len() as u8;
+    let bytes = pad(payload);
+    if plain {
+        return Message {
+            stamp: 0,
+            len: len,
+            held: false,
+            confirmed: false,
+            bytes: bytes,
+        };
+    }
+    Message {
+        stamp: counter,
+        len: len,
+        held: true,
+        confirmed: false,
+        bytes: bytes,
+    }
+}
+
+impl Node {
+    // Takes a message to send on one of the node's own streams.
+    pub fn request(mut self, stream: Stream, payload: &[u8]) -> Answered
+        ensures exact { λ r. ⌜ r ≡ answered (request stream (now (payload .entry)) self) ⌝ }
+        ensures unbounded { λ r. ⌜ ((h : List Call) → self ≡ after rolled h
+            → r ≡ answered (rollOutcome (request stream (now (payload .entry)) (after unbounded h)))) ⌝ }
+    {
+        if payload.len() > Message::MAX_LEN {
+            return Answered {
+                node: self,
+                reply: Reply::BadLength,
+            };
+        }
+        // Where the stream's slot stands; past the last slot, where it has none.
+        let mut i: usize = 0;
+        while i < Node::SLOTS {
+            let s = self.slots[i];
+            if s.is_of(stream) {
+                break;
+            }
+            i += 1;
+        }
+        if i >= Node::SLOTS {
+            return Answered {
+                node: self,
+                reply: Reply::NotSender,
+            };
+        }
+        let s = self.slots[i];
+        if !s.is_sender() {
+            return Answered {
+                node: self,
+                reply: Reply::NotSender,
+            };
+        }
+        if s.is_busy() {
+            return Answered {
+                node: self,
+                reply: Reply::Busy,
+            };
+        }
+        let t = s.requested(self.counter, payload);
+        self.slots[i] = t;
+        Answered {
+            node: self,
+            reply: Reply::Done,
+        }
+    }
+}

@@ -1,0 +1,81 @@
+// Setting up a stream.
+use crate::Answered;
+use crate::Node;
+use crate::slots::Message;
+use crate::slots::Pending;
+use crate::slots::Slot;
+use wire::ids::Stream;
+use wire::reply::Reply;
+use wire::settings::Settings;
+ghost use mathlib.Core.Path.{_≡_};
+ghost use mathlib.Core.List.{List};
+ghost use Rattle.node.specs.Nodes.{answered};
+ghost use Rattle.node.specs.SetUp.{slotFor, setUp};
+ghost use Rattle.node.specs.Clock.{rolled, unbounded};
+ghost use Rattle.node.specs.Calls.{Call, after, rollOutcome};
+
+impl Slot {
+    // The slot of a stream that was just set up.
+    pub fn set_up(stream: Stream, settings: Settings) -> Slot
+        ensures { λ r. ⌜ r ≡ slotFor stream settings ⌝ }
+    {
+        Slot {
+            stream: stream,
+            settings: settings,
+            message: Message::NOTHING,
+            pending: Pending::NONE,
+            used: true,
+        }
+    }
+}
+
+impl Node {
+    // Gives a stream a slot, with its settings.
+    pub fn set_up(mut self, stream: Stream, settings: Settings) -> Answered
+        ensures exact { λ r. ⌜ r ≡ answered (setUp stream settings self) ⌝ }
+        ensures unbounded { λ r. ⌜ ((h : List Call) → self ≡ after rolled h → r ≡ answered (rollOutcome (setUp stream settings (after unbounded h)))) ⌝ }
+    {
+        if !settings.legal(stream) {
+            return Answered {
+                node: self,
+                reply: Reply::BadSettings,
+            };
+        }
+        // Where the first free slot stands; past the last slot, where there is none.
+        let mut i: usize = 0;
+        while i < Node::SLOTS {
+            let s = self.slots[i];
+            if s.is_free() {
+                break;
+            }
+            i += 1;
+        }
+        // The same of the stream's slot.
+        let mut k: usize = 0;
+        while k < Node::SLOTS {
+            let s = self.slots[k];
+            if s.is_of(stream) {
+                break;
+            }
+            k += 1;
+        }
+        if k < Node::SLOTS {
+            return Answered {
+                node: self,
+                reply: Reply::Taken,
+            };
+        }
+        if i >= Node::SLOTS {
+            return Answered {
+                node: self,
+                reply: Reply::TableFull,
+            };
+        }
+        let s = Slot::set_up(stream, settings);
+        self.slots[i] = s;
+        Answered {
+            node: self,
+            reply: Reply::Done,
+        }
+    }
+}

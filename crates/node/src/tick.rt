@@ -1,0 +1,292 @@
+// A tick: the counter moves, what is due is delivered by ascending stream, and what is late dropped.
+use crate::Delivered;
+use crate::Node;
+use crate::slots::Message;
+use crate::slots::Slot;
+use wire::delivered::write_record;
+use wire::reply::Reply;
+use wire::settings::Settings;
+ghost use mathlib.Core.Path.{_≡_};
+ghost use mathlib.Core.List.{List};
+ghost use Prim.Native.Nat.{_+_, _≤_, _<_};
+ghost use lib.ListN.{length};
+ghost use Rattle.wire.specs.Frames.{maxPayload};
+ghost use Rattle.wire.specs.Delivered.{over};
+ghost use Rattle.node.specs.Nodes.{slotCount, delivered};
+ghost use Rattle.node.specs.Tick.{late, due, holdOver, tick};
+ghost use Rattle.node.specs.Selection.{stirs, mayStir, stirred, keyOf, before, above, leastAt};
+ghost use Rattle.node.specs.Clock.{rolled, unbounded};
+ghost use Rattle.node.specs.Calls.{Call, after, rollOutcome};
+
+fn wide16(x: u16) -> u32
+    ensures { λ r. ⌜ r ≡ x ⌝ }
+{
+    x as u32
+}
+
+fn wide32(x: u32) -> u64
+    ensures { λ r. ⌜ (r ≡ x) × (r < 4294967296) ⌝ }
+{
+    x as u64
+}
+
+// The counter after a tick.
+fn next(now: u16) -> u16
+    ensures { λ r. ⌜ r ≡ rolled .next now ⌝ }
+{
+    std::num::wrapping_add_u16(now, 1)
+}
+
+// The age of a stamp, also where the counter has rolled over since.
+fn age(now: u16, stamp: u16) -> u16
+    ensures { λ r. ⌜ r ≡ rolled .age now stamp ⌝ }
+{
+    std::num::wrapping_sub_u16(now, stamp)
+}
+
+impl Message {
+    // The payload and the zeros after it, eight bytes in all.
+    fn all_bytes(self) -> [u8; Message::MAX_LEN]
+        ensures { λ r. ⌜ (r ≡ self .bytes) × (length r ≡ maxPayload) ⌝ }
+    {
+        self.bytes
+    }
+}
+
+impl Slot {
+    // Held by a receiver, unconfirmed in 2M, and older than the confirm delay.
+    fn late(self, age: u16) -> bool
+        ensures { λ r. ⌜ r ≡ late age self ⌝ }
+    {
+        let s = self.settings;
+        let m = self.message;
+        if age > s.dc {
+            return self.used
+                & (s.role == Settings::RECEIVE)
+                & m.held
+                & (s.class == Settings::TWO_MESSAGE)
+                & !m.confirmed;
+        }
+        false
+    }
+
+    // Held by a receiver, confirmed in 2M or IMD, and older than the deliver delay.
+    fn due(self, age: u16) -> bool
+        ensures { λ r. ⌜ r ≡ due age self ⌝ }
+    {
+        let s = self.settings;
+        let m = self.message;
+        if age > s.dd {
+            return self.used
+                & (s.role == Settings::RECEIVE)
+                & m.held
+                & ((s.class == Settings::IMD) | (s.class == Settings::TWO_MESSAGE) & m.confirmed);
+        }
+        false
+    }
+
+    // Held by a sender, and older than data reach and deliver delay.
+    fn hold_over(self, age: u16) -> bool
+        ensures { λ r. ⌜ r ≡ holdOver age self ⌝ }
+    {
+        let s = self.settings;
+        let m = self.message;
+        if wide16(age) > wide16(s.rd) + wide16(s.dd) {
+            return self.used & (s.role == Settings::SEND) & m.held;
+        }
+        false
+    }
+
+    // Whether the message is held and old enough that a tick may change the slot.
+    fn may_stir(self, age: u16) -> bool
+        ensures { λ r. ⌜ r ≡ mayStir age self ⌝ }
+    {
+        if !self.message.held {
+            return false;
+        }
+        let s = self.settings;
+        if age > s.dd {
+            return true;
+        }
+        if s.class == Settings::TWO_MESSAGE {
+            return age > s.dc;
+        }
+        false
+    }
+
+    // Whether a tick changes the slot: of the three tests above only one can hold.
+    fn stirs(self, age: u16) -> bool
+        ensures { λ r. ⌜ r ≡ stirs age self ⌝ }
+    {
+        let s = self.settings;
+        let m = self.message;
+        if s.role == Settings::SEND {
+            return self.hold_over(age);
+        }
+        if (s.class == Settings::TWO_MESSAGE) & !m.confirmed {
+            return self.late(age);
+        }
+        self.due(age)
+    }
+
+    // One above the stream, if the slot is due; else 0.
+    fn key(self, age: u16) -> u64
+        ensures { λ r. ⌜ r ≡ keyOf age self ⌝ }
+    {
+        if self.due(age) {
+            return wide32(self.stream.0) + 1;
+        }
+        0
+    }
+
+    // What a tick makes of a slot that it changes.
+    fn stirred(mut self) -> Slot
+        ensures { λ r. ⌜ r ≡ stirred self ⌝ }
+    {
+        let s = self.settings;
+        let mut m = self.message;
+        if s.role == Settings::SEND {
+            m.stamp = 0;
+            m.held = false;
+            m.confirmed = false;
+            self.message = m;
+            return self;
+        }
+        if (s.class == Settings::TWO_MESSAGE) & !m.confirmed {
+            let after_drop = Message::NOTHING;
+            let mut p = self.pending;
+            p.abort = true;
+            self.message = after_drop;
+            self.pending = p;
+            return self;
+        }
+        let after_delivery = Message::NOTHING;
+        self.message = after_delivery;
+        self
+    }
+}
+
+// Whether a key is `from` or above, and before the best of those after it, which is 0 where none of them counts.
+fn is_before(from: u64, key: u64, best: u64) -> bool
+    ensures { λ r. ⌜ r ≡ before from key best ⌝ }
+{
+    (from <= key) & ((best == 0) | (key <= best))
+}
+
+// How far a key lies above a number; a lower key lies further above it than any other, since the difference wraps around.
+fn above(from: u64, key: u64) -> u64
+    ensures { λ r. ⌜ (r ≡ above from key) × (from < 18446744073709551616) × (key < 18446744073709551616) ⌝ }
+{
+    std::num::wrapping_sub_u64(key, from)
+}
+
+// The place of the least key that is `from` or above, the first of them; the number of keys, where there is none.
+fn least(keys: &[u64; Node::SLOTS], from: u64) -> usize
+    requires { ⌜ (length (now keys) ≡ slotCount) × (1 ≤ from) ⌝ }
+    ensures { λ r. ⌜ r ≡ leastAt from (now (keys .entry)) ⌝ }
+{
+    let mut place: usize = Node::SLOTS;
+    let mut nearest = u64::MAX - from;
+    let mut i: usize = Node::SLOTS;
+    while i > 0 {
+        i -= 1;
+        let distance = above(from, keys[i]);
+        if distance <= nearest {
+            place = i;
+            nearest = distance;
+        }
+    }
+    place
+}
+
+impl Node {
+    // A tick writes at most the longest record for each slot.
+    pub const TICK_ROOM: usize = Node::SLOTS * Node::HEAR_ROOM;
+
+    // Moves the counter by one; what is due is delivered, and what is late dropped.
+    pub fn tick(mut self, out: &mut [u8]) -> Delivered
+        ensures exact { λ r. ⌜ (r ≡ delivered (tick rolled (now (out .entry)) self))
+            × (now (out .exit) ≡ over (tick rolled (now (out .entry)) self .bytes) (now (out .entry))) ⌝ }
+        ensures unbounded { λ r. ⌜ ((h : List Call) → self ≡ after rolled h
+            → (r ≡ delivered (rollOutcome (tick unbounded (now (out .entry)) (after unbounded h))))
+            × (now (out .exit) ≡ over (tick unbounded (now (out .entry)) (after unbounded h) .bytes) (now (out .entry)))) ⌝ }
+    {
+        if out.len() < Node::TICK_ROOM {
+            return Delivered {
+                node: self,
+                reply: Reply::ShortOutput,
+                written: 0,
+            };
+        }
+        let now = next(self.counter);
+        self.counter = now;
+        // Most ticks change no slot, so the slots are only read at first: which of them stir, and whether any does; of the due
+        // ones the keys, how many they are, and the place of the least key, with the key.
+        let mut keys = [0u64; Node::SLOTS];
+        let mut stirring = [false; Node::SLOTS];
+        let mut any = false;
+        let mut left: usize = 0;
+        let mut place: usize = Node::SLOTS;
+        let mut best: u64 = 0;
+        let mut i: usize = Node::SLOTS;
+        while i > 0 {
+            i -= 1;
+            let slot = self.slots[i];
+            let a = age(now, slot.message.stamp);
+            if slot.may_stir(a) {
+                // Read again, so that of the other slots only a few fields are read.
+                let old = self.slots[i];
+                if old.stirs(a) {
+                    let key = old.key(a);
+                    keys[i] = key;
+                    stirring[i] = true;
+                    any = true;
+                    if key > 0 {
+                        left += 1;
+                        if is_before(1, key, best) {
+                            place = i;
+                            best = key;
+                        }
+                    }
+                }
+            }
+        }
+        if !any {
+            return Delivered {
+                node: self,
+                reply: Reply::Done,
+                written: 0,
+            };
+        }
+        // The records of the due slots, each after the one before; its key is then taken out.
+        let mut at: usize = 0;
+        let mut from: u64 = 1;
+        while place < Node::SLOTS {
+            let slot = self.slots[place];
+            let message = slot.message;
+            let bytes = message.all_bytes();
+            at += write_record(&mut out[at..], slot.stream, bytes, message.len);
+            from = wide32(slot.stream.0) + 2;
+            keys[place] = 0;
+            left -= 1;
+            place = Node::SLOTS;
+            if left > 0 {
+                place = least(&keys, from);
+            }
+        }
+        // The slots that stir, after the tick.
+        let mut j: usize = Node::SLOTS;
+        while j > 0 {
+            j -= 1;
+            if stirring[j] {
+                let slot = self.slots[j];
+                self.slots[j] = slot.stirred();
+            }
+        }
+        Delivered {
+            node: self,
+            reply: Reply::Done,
+            written: at,
+        }
+    }
+}

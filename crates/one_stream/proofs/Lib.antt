@@ -1,0 +1,13 @@
+pub mod Truth
+pub mod Sendings
+pub mod Frames
+pub mod Events
+pub mod Histories
+pub mod Twice
+pub mod Books
+pub mod Chain
+pub mod Same
+pub mod TwoMWhy
+pub mod TwoMSteps
+pub mod TwoMEnd
+pub mod TwoMDemand
