@@ -37,5 +37,5 @@ module _ (streams : List StreamRecord) (errors : Errors) (room : ℕ) where
     bad : (Legal streams errors → ⊥) → Judged BadStream []
     short : Legal streams errors → room < 2 * length streams → Judged ShortOutput []
     late : (i : ℕ) → Taken → i < length streams → NoSolution streams errors (at streams i)
-      → ((k : ℕ) → k < i → (w : ℕ) × LeastSolution streams errors (at streams k) w) → Judged (Late i) []
+        → ((k : ℕ) → k < i → (w : ℕ) × LeastSolution streams errors (at streams k) w) → Judged (Late i) []
     all : (numbers : List ℕ) → Taken → Times numbers → Judged Done numbers
