@@ -6,6 +6,7 @@ pub mod StreamSeen
 pub mod SeenAfterOwnEvent
 pub mod SeenAfterGivingOut
 pub mod SeenAfterOtherEvent
+pub mod PayloadKept
 pub mod RulesSeen
 pub mod MessageKept
 pub mod KeptByGivingOut
@@ -15,3 +16,4 @@ pub mod Judgement
 pub mod PlanGives
 pub mod AcceptedRequest
 pub mod OmissionsStay
+pub mod MessageOfHistory

@@ -9,7 +9,7 @@ use Rattle.node.specs.declared.Node.{Node}
 use Rattle.node.specs.declared.Answered.{Answered}
 use Rattle.node.specs.declared.Delivered.{Delivered}
 use Rattle.node.specs.declared.Given.{Given}
-use Rattle.node.specs.Nodes.{fresh, noId, answered, delivered, given}
+use Rattle.node.specs.Nodes.{fresh, noId, asAnswered, asDelivered, asGiven}
 use Rattle.node.specs.Clock.{rolled}
 use Rattle.node.specs.SetUp as set-up
 use Rattle.node.specs.Hear as hearing
@@ -18,7 +18,7 @@ use Rattle.node.specs.Request as requesting
 use Rattle.node.specs.NextFrame as giving
 use Rattle.node.specs.Calls.{Call, setUp, hear, tick, request, nextFrame, outcome, Answer}
 use Rattle.module.specs.declared.tally.Tally.{Tally}
-use Rattle.module.specs.Tallies.{none, tallied}
+use Rattle.module.specs.Tallies.{zeroTally, tallied}
 
 pub record Module : Type 0 where
   pub node : Node
@@ -26,7 +26,7 @@ pub record Module : Type 0 where
 
 -- before any call
 abbrev pub freshModule : Module
-freshModule = record { node = fresh; tally = none }
+freshModule = record { node = fresh; tally = zeroTally }
 
 -- a call: the node's, with its reply counted, a refusal's too
 abbrev pub moduleStep : Call → Module → Module
@@ -64,19 +64,19 @@ Left (nextFrame output) = List ℕ
 -- the contract of each call, at a module: of what it returns, of the lent output and of the lent tally
 abbrev pub Promised : (c : Call) → Module → Returned c → Left c → Tally → Type 0
 Promised (setUp s settings) m r left t =
-    (r ≡ answered (set-up.setUp s settings (m .node))) × (t ≡ tallied (m .tally) (set-up.setUp s settings (m .node) .reply))
+    (r ≡ asAnswered (set-up.setUp s settings (m .node))) × (t ≡ tallied (m .tally) (set-up.setUp s settings (m .node) .reply))
 Promised (hear id dlc payload output) m r left t =
-    (r ≡ delivered (hearing.hear id dlc payload output (m .node)))
+    (r ≡ asDelivered (hearing.hear id dlc payload output (m .node)))
     × (left ≡ over (hearing.hear id dlc payload output (m .node) .bytes) output)
     × (t ≡ tallied (m .tally) (hearing.hear id dlc payload output (m .node) .reply))
 Promised (tick output) m r left t =
-    (r ≡ delivered (ticking.tick rolled output (m .node)))
+    (r ≡ asDelivered (ticking.tick rolled output (m .node)))
     × (left ≡ over (ticking.tick rolled output (m .node) .bytes) output)
     × (t ≡ tallied (m .tally) (ticking.tick rolled output (m .node) .reply))
 Promised (request s payload) m r left t =
-    (r ≡ answered (requesting.request s payload (m .node))) × (t ≡ tallied (m .tally) (requesting.request s payload (m .node) .reply))
+    (r ≡ asAnswered (requesting.request s payload (m .node))) × (t ≡ tallied (m .tally) (requesting.request s payload (m .node) .reply))
 Promised (nextFrame output) m r left t =
-    (r ≡ given (giving.nextFrame output (m .node)))
+    (r ≡ asGiven (giving.nextFrame output (m .node)))
     × (left ≡ over (giving.nextFrame output (m .node) .bytes) output)
     × (t ≡ tallied (m .tally) (giving.nextFrame output (m .node) .reply))
 

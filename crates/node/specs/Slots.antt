@@ -16,8 +16,8 @@ use Rattle.node.specs.declared.slots.Slot.{Slot}
 abbrev pub padded : List ℕ → List ℕ
 padded payload = payload ++ drop (length payload) (replicate maxPayload 0)
 
-abbrev pub nothing : Message
-nothing = record { stamp = 0; len = 0; held = false; confirmed = false; bytes = replicate maxPayload 0 }
+abbrev pub noMessage : Message
+noMessage = record { stamp = 0; len = 0; held = false; confirmed = false; bytes = replicate maxPayload 0 }
 
 -- taken up at this moment, unconfirmed
 abbrev pub holding : (now : ℕ) → (payload : List ℕ) → Message
@@ -64,7 +64,7 @@ empty =
     record {
       stream = record { 0 = 0 };
       settings = record { rd = 0; dc = 0; ra = 0; dd = 0; role = 0; class = 0 };
-      message = nothing;
+      message = noMessage;
       pending = nonePending;
       used = false;
     }

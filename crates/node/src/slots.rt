@@ -22,7 +22,7 @@ impl Message {
     // The longest payload of a frame.
     pub const MAX_LEN: usize = 8;
 
-    pub const NOTHING: Message = Message {
+    pub const NONE: Message = Message {
         stamp: 0,
         len: 0,
         held: false,
@@ -127,7 +127,7 @@ impl Slot {
             role: 0,
             class: 0,
         },
-        message: Message::NOTHING,
+        message: Message::NONE,
         pending: Pending::NONE,
         used: false,
     };

@@ -7,7 +7,7 @@ use Rattle.wire.specs.declared.ids.Stream.{Stream}
 use Rattle.bench.specs.Bench.{Delivery, thePayload, theConfirmation, theAbort}
 use Rattle.bench.specs.SetUp.{Entry, Plan, start}
 use Rattle.bench.specs.Events.{Event, asks, gives, sends, ticks, dies, all, only}
-use Rattle.bench.specs.Demands.{Judged, Seen}
+use Rattle.bench.specs.Demands.{MessageIn, OneTickBeyond, FullData}
 use Rattle.bench.specs.MomentTen.{five, twoM, message, wait, got, Shows}
 use Rattle.bench.proofs.examples.ExampleHistories.{computing}
 
@@ -115,7 +115,8 @@ pub a-busy-day : Shows eight busy-day their-logs
 unfolding computing
 a-busy-day = record { set-up = refl; keeps-rules = refl; delivers = refl }
 
-pub first-on-five : Judged (start eight) busy-day
+-- the first message on 5, one tick beyond Rd + dd after its request
+unfoldable pub first-on-five : MessageIn (start eight) busy-day
 unfolding computing
 first-on-five =
     record {
@@ -123,34 +124,20 @@ first-on-five =
       sender = 0;
       stream = five;
       payload = message;
-      since = since;
+      since = since ++ (ticks ∷ []);
       rest = rest;
       split = refl;
       accepted = tt;
-      twoMessage = tt;
-      long = refl;
     }
 
--- the first messages on 5 and 6
-unfoldable pub seen-on-five : Seen (start eight) busy-day
-unfolding computing
-seen-on-five =
-    record {
-      before = wait 3;
-      sender = 0;
-      stream = five;
-      payload = message;
-      since = since;
-      rest = ticks ∷ rest;
-      split = refl;
-      accepted = tt;
-      twoMessage = tt;
-      newest = tt;
-    }
+pub first-judged : OneTickBeyond (start eight) busy-day first-on-five
+unfolding computing first-on-five
+first-judged = record { earlier = since; last = refl; long = refl }
 
-unfoldable pub seen-on-six : Seen (start eight) busy-day
+-- the first message on 6, until the second one there is asked for
+unfoldable pub first-on-six : MessageIn (start eight) busy-day
 unfolding computing
-seen-on-six =
+first-on-six =
     record {
       before = wait 3 ++ (asks 0 five message ∷ on-three-and-four);
       sender = 7;
@@ -160,6 +147,13 @@ seen-on-six =
       rest = at-10 ++ wait 1 ++ (ticks ∷ rest);
       split = refl;
       accepted = tt;
-      twoMessage = tt;
-      newest = tt;
     }
+
+-- the data of both was full
+pub full-on-five : FullData (start eight) busy-day first-on-five
+unfolding computing first-on-five
+full-on-five = record { twoMessage = tt; newest = tt; full = tt }
+
+pub full-on-six : FullData (start eight) busy-day first-on-six
+unfolding computing first-on-six
+full-on-six = record { twoMessage = tt; newest = tt; full = tt }

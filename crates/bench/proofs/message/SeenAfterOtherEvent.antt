@@ -157,6 +157,9 @@ module _ {n : ℕ} {D : OS.Delays} (K : ClassOnBench n D) (s : Stream) (me : ℕ
         x : Slot
         x = slotAt s i b
 
+    pub asks-pending : (i : ℕ) → slotAt s i (step b (asks j s p)) .pending .abort ≡ slotAt s i b .pending .abort
+    asks-pending i = asks-looks i .pending
+
     asks-same : (i : ℕ)
         → (moduleAt i (step b (asks j s p)) .live ≡ isLive i b) × (moduleAt i (step b (asks j s p)) .log ≡ moduleAt i b .log) ×
         (countOf (step b (asks j s p)) i ≡ countOf b i)

@@ -35,10 +35,10 @@ use Rattle.bench.proofs.laws.ModuleAfterEvent.{count-is}
 use Rattle.bench.proofs.laws.BooksAfterEvent.{entering, books-given, books-sent, books-ticked, books-dead}
 use Rattle.bench.proofs.laws.TicksCounted.{live-back, count-step}
 use Rattle.bench.proofs.message.SendingsSeen.{toSent}
-use Rattle.bench.proofs.message.ClassOnBench.{ClassOnBench}
+use Rattle.bench.proofs.message.ClassOnBench.{maySend, ClassOnBench}
 use Rattle.bench.proofs.message.ModuleSeen.{toNote, notes, view}
 use Rattle.bench.proofs.message.SeenAfterOwnEvent.{Valid, valid-step, strandOf}
-use Rattle.bench.proofs.message.RulesSeen.{maySend, owner-lives, legal-data}
+use Rattle.bench.proofs.message.RulesSeen.{owner-lives, legal-data}
 use Rattle.bench.proofs.message.MessageKept.{Track}
 use Rattle.bench.proofs.message.ThroughHistory.{else-books, sends-elsewhere, accepts-it, track-step}
 use Rattle.bench.proofs.two_message.TwoMessageOnBench.{twoMessage}
