@@ -57,7 +57,7 @@ struct Part {
 // A lower bound of what one claim takes from w on. Where it comes again before `ahead`, it is better
 // counted as a share of the bus.
 fn part_of(cost: u64, period: u64, lead: u64, w: u64, ahead: u64) -> Part
-    requires { ⌜ Claim cost period lead × (w ≤ most) × (ahead ≤ 1000000000000000) ⌝ }
+    requires { ⌜ Claim cost period lead × (w ≤ most) × (ahead ≤ 2000000000000000) ⌝ }
     ensures { λ r. ⌜ ClaimedFrom cost period lead w (r .fixed) (r .share) ⌝ }
 {
     let times = ceil(w + lead, period);
@@ -84,7 +84,7 @@ fn reach(
     ahead: u64,
     room: u64,
 ) -> u64
-    requires { ⌜ Ready (now costs) (now periods) (now leads) n w × (blocking ≤ most) × (ahead ≤ 1000000000000000) × (room ≤ most) ⌝ }
+    requires { ⌜ Ready (now costs) (now periods) (now leads) n w × (blocking ≤ most) × (ahead ≤ 2000000000000000) × (room ≤ most) ⌝ }
     ensures { λ r. ⌜ NoneBelow (now (costs .entry)) (now (periods .entry)) (now (leads .entry)) n blocking w r ⌝ }
 {
     let mut fixed = blocking;
@@ -111,8 +111,12 @@ pub(crate) fn larger(a: u64, b: u64) -> u64
     if a < b { b } else { a }
 }
 
-// No claim is left out of what comes before this.
+// No claim is left out of what comes again before this.
 const ALL: u64 = 4000000;
+
+// How many steps of the length at hand `reach` looks ahead. Any number is right; this one makes the
+// slowest lists that were found the least slow.
+const STEPS: u64 = 8;
 
 // The least solution below room; room, where there is none.
 pub(crate) fn least_solution(
@@ -132,7 +136,8 @@ pub(crate) fn least_solution(
         if next <= w {
             return w;
         }
-        let far = reach(costs, periods, leads, n, blocking, w, next, room);
+        let ahead = w + STEPS * (next - w);
+        let far = reach(costs, periods, leads, n, blocking, w, ahead, room);
         w = larger(next, far);
     }
     room

@@ -1,9 +1,9 @@
 use mathlib.Core.Path.{_≡_}
-use Prim.Native.Nat.{_≤_, _-_}
+use Prim.Native.Nat.{_≤_, _-_, _*_}
 use borrow.Author.Needs.{needs}
 use native.Mathlib.Omega.{arith}
 use Rattle.response.specs.Recurrence.{NoneBelow}
-use Rattle.response.proofs.Claims.{asked-most}
+use Rattle.response.proofs.Claims.{mostClaimed, asked-most}
 use Rattle.response.proofs.Rounds.{ready-at, goes-on, ends-at, ends-past}
 use Rattle.response.proofs.recurrence.least_solution.Statement.{statement}
 use Rattle.response.proofs.recurrence.least_solution.Tie as tie
@@ -38,11 +38,25 @@ returns c =
     let q = c .before .before .before .before .before .pre in
     ends-at (q .0) _ _ _ (c .before .before .before .loop .inv) (rw (c .before .asked .ensures) at (c .if1 .taken)) (c .before .before .loop-test .taken)
 
+bounded : (c : tie.Else1 Inv-loop μ-loop) → c .before .asked .result ≤ 65 * mostClaimed
+bounded c =
+    rw (c .before .asked .ensures)
+    (asked-most _ _ _ (ready-at (c .before .before .before .before .before .pre .0) (c .before .before .before .loop .w) (omega arith)))
+
+sub-ahead : tie.Need-sub-ahead Inv-loop μ-loop
+sub-ahead c = search needs
+
+mul-ahead : tie.Need-mul-ahead Inv-loop μ-loop
+mul-ahead c = omega (arith, bounded c)
+
+add-ahead : tie.Need-add-ahead Inv-loop μ-loop
+add-ahead c = omega (arith, bounded c)
+
 reach-requires-2 : tie.Need-reach-requires-2 Inv-loop μ-loop
 reach-requires-2 c κs =
     let q = c .before .before .before .before .before .pre in
     let at-w = ready-at (q .0) (c .before .before .before .loop .w) (omega arith) in
-    (at-w, q .1, rw (c .before .asked .ensures) (omega (arith, asked-most _ _ _ at-w)), q .2)
+    (at-w, q .1, omega (arith, bounded c), q .2)
 
 larger-requires : tie.Need-larger-requires Inv-loop μ-loop
 larger-requires c κs = tt
@@ -68,6 +82,9 @@ least-solution-spec =
     asked-requires
     add-next
     returns
+    sub-ahead
+    mul-ahead
+    add-ahead
     reach-requires-2
     larger-requires
     loop-less
