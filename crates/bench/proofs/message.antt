@@ -12,6 +12,7 @@ pub mod MessageKept
 pub mod KeptByGivingOut
 pub mod RequestOpens
 pub mod ThroughHistory
+pub mod NewestData
 pub mod Judgement
 pub mod PlanGives
 pub mod AcceptedRequest

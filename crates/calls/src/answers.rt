@@ -1,4 +1,4 @@
-// The state that the lines drive, and how an answer is written. Each part of an answer makes room for itself.
+// The state that the lines drive, and the answers to them.
 use module::tally::Tally;
 use node::Node;
 use text::Buffer;
@@ -19,7 +19,7 @@ pub struct Answer {
 }
 
 impl State {
-    pub fn new() -> State {
+    pub(crate) fn new() -> State {
         State {
             node: Node::fresh(),
             tally: Tally::zero(),
@@ -28,7 +28,7 @@ impl State {
 }
 
 // The state after a call: its node, and its reply counted.
-pub fn after(node: Node, tally: Tally, reply: Reply) -> State
+pub(crate) fn after(node: Node, tally: Tally, reply: Reply) -> State
     ensures { λ r. ⌜ (r .node ≡ node) × (r .tally ≡ tallied tally reply) ⌝ }
 {
     State {
@@ -38,42 +38,26 @@ pub fn after(node: Node, tally: Tally, reply: Reply) -> State
 }
 
 // The answer to a line that can't be read: nothing changes.
-pub fn unread(state: State, out: &mut Buffer, to: usize) -> Answer
+pub(crate) fn unread(state: State, out: &mut Buffer, to: usize) -> Answer
     ensures { λ r. ⌜ r .state ≡ state ⌝ }
 {
     Answer {
         state,
-        to: put_byte(out, to, b'?'),
+        to: output::put_byte(out, to, b'?'),
     }
 }
 
 // The answer with its newline.
-pub fn ended(answer: Answer, out: &mut Buffer) -> Answer
+pub(crate) fn ended(answer: Answer, out: &mut Buffer) -> Answer
     ensures { λ r. ⌜ r .state ≡ answer .state ⌝ }
 {
     let state = answer.state;
     Answer {
         state,
-        to: put_byte(out, answer.to, b'\n'),
+        to: output::put_byte(out, answer.to, b'\n'),
     }
 }
 
-pub fn put_byte(out: &mut Buffer, to: usize, b: u8) -> usize {
-    let at = output::room(out, to);
-    output::put_byte(out, at, b)
-}
-
-pub fn put_number(out: &mut Buffer, to: usize, n: u64) -> usize {
-    let at = output::room(out, to);
-    output::put_decimal(out, at, n)
-}
-
-// A number, and a space after it.
-pub fn put_spaced(out: &mut Buffer, to: usize, n: u64) -> usize {
-    let past = put_number(out, to, n);
-    put_byte(out, past, b' ')
-}
-
-pub fn put_reply(out: &mut Buffer, to: usize, reply: Reply) -> usize {
-    put_number(out, to, reply.number() as u64)
+pub(crate) fn put_reply(out: &mut Buffer, to: usize, reply: Reply) -> usize {
+    output::put_decimal(out, to, reply.number() as u64)
 }

@@ -3,33 +3,38 @@ use crate::answers;
 use crate::answers::Answer;
 use crate::answers::State;
 use crate::lent;
-use crate::numbers;
 use text::Buffer;
+use text::numbers;
 use text::output;
+use text::part;
+use text::payloads;
 use text::words;
 use wire::ids::BusId;
 use wire::ids::Stream;
 use wire::reply::Reply;
 use wire::settings::Settings;
 
+// The most bytes of a payload that can be read.
+const PAYLOAD: usize = 64;
+
 // setup STREAM ROLE CLASS RD DC RA DD
-pub fn setup(state: State, line: &[u8], at: usize, out: &mut Buffer, to: usize) -> Answer {
-    let stream = numbers::long_at(line, at);
-    let role = numbers::small_at(line, stream.next);
-    let class = numbers::small_at(line, role.next);
-    let rd = numbers::ticks_at(line, class.next);
-    let dc = numbers::ticks_at(line, rd.next);
-    let ra = numbers::ticks_at(line, dc.next);
-    let dd = numbers::ticks_at(line, ra.next);
+pub(crate) fn setup(state: State, line: &[u8], at: usize, out: &mut Buffer, to: usize) -> Answer {
+    let stream = numbers::u32_at(line, at, u32::MAX);
+    let role = numbers::u8_at(line, stream.next, u8::MAX);
+    let class = numbers::u8_at(line, role.next, u8::MAX);
+    let rd = numbers::u16_at(line, class.next, u16::MAX);
+    let dc = numbers::u16_at(line, rd.next, u16::MAX);
+    let ra = numbers::u16_at(line, dc.next, u16::MAX);
+    let dd = numbers::u16_at(line, ra.next, u16::MAX);
     if stream.ok & role.ok & class.ok & rd.ok & dc.ok & ra.ok & dd.ok & words::done(line, dd.next) {
-        let settings = Settings {
-            rd: rd.value,
-            dc: dc.value,
-            ra: ra.value,
-            dd: dd.value,
-            role: role.value,
-            class: class.value,
-        };
+        let settings = Settings::of(
+            role.value,
+            class.value,
+            rd.value,
+            dc.value,
+            ra.value,
+            dd.value,
+        );
         let node = state.node;
         let answer = node.set_up(Stream(stream.value), settings);
         let reply = answer.reply;
@@ -42,14 +47,13 @@ pub fn setup(state: State, line: &[u8], at: usize, out: &mut Buffer, to: usize) 
 }
 
 // request STREAM PAYLOAD
-pub fn request(state: State, line: &[u8], at: usize, out: &mut Buffer, to: usize) -> Answer {
-    let stream = numbers::long_at(line, at);
-    let payload = words::payload_at(line, stream.next);
+pub(crate) fn request(state: State, line: &[u8], at: usize, out: &mut Buffer, to: usize) -> Answer {
+    let mut bytes = [0u8; PAYLOAD];
+    let stream = numbers::u32_at(line, at, u32::MAX);
+    let payload = payloads::payload_at(line, stream.next, &mut bytes);
     if stream.ok & payload.ok & words::done(line, payload.next) {
-        let bytes = payload.bytes;
-        let len = numbers::least(payload.len, 64);
         let node = state.node;
-        let answer = node.request(Stream(stream.value), &bytes[0..len]);
+        let answer = node.request(Stream(stream.value), part(&bytes, 0, payload.len));
         let reply = answer.reply;
         return Answer {
             state: answers::after(answer.node, state.tally, reply),
@@ -60,20 +64,19 @@ pub fn request(state: State, line: &[u8], at: usize, out: &mut Buffer, to: usize
 }
 
 // hear IDENT DLC PAYLOAD OUT
-pub fn hear(state: State, line: &[u8], at: usize, out: &mut Buffer, to: usize) -> Answer {
-    let id = numbers::long_at(line, at);
-    let dlc = numbers::small_at(line, id.next);
-    let payload = words::payload_at(line, dlc.next);
-    let size = numbers::size_at(line, payload.next);
+pub(crate) fn hear(state: State, line: &[u8], at: usize, out: &mut Buffer, to: usize) -> Answer {
+    let mut bytes = [0u8; PAYLOAD];
+    let id = numbers::u32_at(line, at, u32::MAX);
+    let dlc = numbers::u8_at(line, id.next, u8::MAX);
+    let payload = payloads::payload_at(line, dlc.next, &mut bytes);
+    let size = numbers::usize_at(line, payload.next, lent::MOST);
     if id.ok & dlc.ok & payload.ok & size.ok & words::done(line, size.next) {
-        let bytes = payload.bytes;
-        let len = numbers::least(payload.len, 64);
         let mut output = lent::FILLED;
         let answer = lent::hear(
             state.node,
             BusId(id.value),
             dlc.value,
-            &bytes[0..len],
+            part(&bytes, 0, payload.len),
             &mut output,
             size.value,
         );
@@ -81,21 +84,21 @@ pub fn hear(state: State, line: &[u8], at: usize, out: &mut Buffer, to: usize) -
         let past = put_written(out, to, reply, answer.written);
         return Answer {
             state: answers::after(answer.node, state.tally, reply),
-            to: lent::put(out, past, &output, size.value),
+            to: output::put_hex(out, past, part(&output, 0, size.value)),
         };
     }
     answers::unread(state, out, to)
 }
 
 // tick OUT
-pub fn tick(state: State, line: &[u8], at: usize, out: &mut Buffer, to: usize) -> Answer {
-    let size = numbers::size_at(line, at);
+pub(crate) fn tick(state: State, line: &[u8], at: usize, out: &mut Buffer, to: usize) -> Answer {
+    let size = numbers::usize_at(line, at, lent::MOST);
     if size.ok & words::done(line, size.next) {
         let mut output = lent::FILLED;
         let answer = lent::tick(state.node, &mut output, size.value);
         let reply = answer.reply;
         let past = put_written(out, to, reply, answer.written);
-        let end = lent::put(out, past, &output, answer.written);
+        let end = output::put_hex(out, past, part(&output, 0, answer.written));
         return Answer {
             state: answers::after(answer.node, state.tally, reply),
             to: put_clean(out, end, lent::is_clean(&output, answer.written)),
@@ -105,8 +108,8 @@ pub fn tick(state: State, line: &[u8], at: usize, out: &mut Buffer, to: usize) -
 }
 
 // next OUT
-pub fn next(state: State, line: &[u8], at: usize, out: &mut Buffer, to: usize) -> Answer {
-    let size = numbers::size_at(line, at);
+pub(crate) fn next(state: State, line: &[u8], at: usize, out: &mut Buffer, to: usize) -> Answer {
+    let size = numbers::usize_at(line, at, lent::MOST);
     if size.ok & words::done(line, size.next) {
         let mut output = lent::FILLED;
         let answer = lent::next_frame(state.node, &mut output, size.value);
@@ -114,7 +117,7 @@ pub fn next(state: State, line: &[u8], at: usize, out: &mut Buffer, to: usize) -
         let past = put_frame(out, to, reply, answer.id, answer.len);
         return Answer {
             state: answers::after(answer.node, state.tally, reply),
-            to: lent::put(out, past, &output, size.value),
+            to: output::put_hex(out, past, part(&output, 0, size.value)),
         };
     }
     answers::unread(state, out, to)
@@ -122,22 +125,21 @@ pub fn next(state: State, line: &[u8], at: usize, out: &mut Buffer, to: usize) -
 
 // `REPLY WRITTEN `.
 fn put_written(out: &mut Buffer, to: usize, reply: Reply, written: usize) -> usize {
-    let past = answers::put_spaced(out, to, reply.number() as u64);
-    answers::put_spaced(out, past, written as u64)
+    let past = output::put_parted(out, to, reply.number() as u64, b' ');
+    output::put_parted(out, past, written as u64, b' ')
 }
 
 // `REPLY IDENT LENGTH `.
 fn put_frame(out: &mut Buffer, to: usize, reply: Reply, id: BusId, len: usize) -> usize {
-    let past = answers::put_spaced(out, to, reply.number() as u64);
-    let end = answers::put_spaced(out, past, id.0 as u64);
-    answers::put_spaced(out, end, len as u64)
+    let past = output::put_parted(out, to, reply.number() as u64, b' ');
+    let end = output::put_parted(out, past, id.0 as u64, b' ');
+    output::put_parted(out, end, len as u64, b' ')
 }
 
 fn put_clean(out: &mut Buffer, to: usize, clean: bool) -> usize {
-    let at = output::room(out, to);
     if clean {
-        output::put(out, at, b" clean")
+        output::put(out, to, b" clean")
     } else {
-        output::put(out, at, b" dirty")
+        output::put(out, to, b" dirty")
     }
 }

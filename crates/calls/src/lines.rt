@@ -3,10 +3,17 @@ use crate::answers;
 use crate::answers::Answer;
 use crate::answers::State;
 use crate::calls;
-use crate::lent;
+use node::Node;
 use text::Buffer;
+use text::input::Kind;
+use text::input::Step;
+use text::numbers;
 use text::output;
+use text::part;
 use text::words;
+
+// The most ticks of one line.
+const TICKS: u64 = 65536;
 
 enum Command {
     Fresh,
@@ -48,14 +55,21 @@ fn command_of(word: &[u8]) -> Command {
     Command::Unknown
 }
 
-// One line, and its newline.
-pub fn line(state: State, line: &[u8], out: &mut Buffer, to: usize) -> Answer {
+// Answers one step of the input.
+pub(crate) fn answer(state: State, step: Step, line: &[u8], out: &mut Buffer, to: usize) -> Answer {
+    let kind = step.kind;
+    match kind {
+        Kind::Line => answers::ended(read(state, line, out, to), out),
+        Kind::Long => answers::ended(answers::unread(state, out, to), out),
+        Kind::More => Answer { state, to },
+        Kind::End => Answer { state, to },
+    }
+}
+
+fn read(state: State, line: &[u8], out: &mut Buffer, to: usize) -> Answer {
     let w = words::word_at(line, 0);
-    let start = w.start;
-    let end = w.end;
-    let command = command_of(&line[start..end]);
-    let answer = named(command, state, line, w.next, out, to);
-    answers::ended(answer, out)
+    let command = command_of(part(line, w.start, w.end));
+    named(command, state, line, w.next, out, to)
 }
 
 fn named(
@@ -82,10 +96,9 @@ fn named(
 // node
 fn fresh(state: State, line: &[u8], at: usize, out: &mut Buffer, to: usize) -> Answer {
     if words::done(line, at) {
-        let room = output::room(out, to);
         return Answer {
             state: State::new(),
-            to: output::put(out, room, b"node"),
+            to: output::put(out, to, b"node"),
         };
     }
     answers::unread(state, out, to)
@@ -93,13 +106,13 @@ fn fresh(state: State, line: &[u8], at: usize, out: &mut Buffer, to: usize) -> A
 
 // ticks N
 fn ticks(state: State, line: &[u8], at: usize, out: &mut Buffer, to: usize) -> Answer {
-    let n = words::number_at(line, at, 65536);
+    let n = numbers::number_at(line, at, TICKS);
     if n.ok & words::done(line, n.next) {
         let last = many(state, n.value, out, to);
         let then = last.state;
         return Answer {
             state: then,
-            to: answers::put_number(out, last.to, then.node.counter as u64),
+            to: output::put_decimal(out, last.to, then.node.counter as u64),
         };
     }
     answers::unread(state, out, to)
@@ -117,7 +130,7 @@ fn many(state: State, n: u64, out: &mut Buffer, to: usize) -> Answer {
 
 // The kth tick, with `K BYTES ` where it wrote something.
 fn one(before: Answer, k: u64, out: &mut Buffer) -> Answer {
-    let mut output = [0u8; 512];
+    let mut output = [0u8; Node::TICK_ROOM];
     let state = before.state;
     let node = state.node;
     let answer = node.tick(&mut output);
@@ -128,13 +141,13 @@ fn one(before: Answer, k: u64, out: &mut Buffer) -> Answer {
     }
 }
 
-fn put_tick(out: &mut Buffer, to: usize, k: u64, output: &[u8], written: usize) -> usize {
+fn put_tick(out: &mut Buffer, to: usize, k: u64, bytes: &[u8], written: usize) -> usize {
     if written == 0 {
         return to;
     }
-    let start = answers::put_spaced(out, to, k);
-    let end = lent::put(out, start, output, written);
-    answers::put_byte(out, end, b' ')
+    let start = output::put_parted(out, to, k, b' ');
+    let end = output::put_hex(out, start, part(bytes, 0, written));
+    output::put_byte(out, end, b' ')
 }
 
 // tally
@@ -149,17 +162,21 @@ fn tally(state: State, line: &[u8], at: usize, out: &mut Buffer, to: usize) -> A
     answers::unread(state, out, to)
 }
 
-fn put_counts(out: &mut Buffer, to: usize, counts: &[u32; 13]) -> usize {
-    let mut past = answers::put_number(out, to, wide(counts[0]));
-    let mut i = 1;
-    while i < 13 {
-        let at = answers::put_byte(out, past, b' ');
-        past = answers::put_number(out, at, wide(counts[i]));
+fn put_counts(out: &mut Buffer, to: usize, counts: &[u32]) -> usize {
+    let mut past = to;
+    let mut i = 0;
+    while i < counts.len() {
+        past = put_count(out, past, 0 < i, counts[i]);
         i += 1;
     }
     past
 }
 
-fn wide(x: u32) -> u64 {
-    x as u64
+// A count, with a space before it where another stands there.
+fn put_count(out: &mut Buffer, to: usize, more: bool, count: u32) -> usize {
+    if more {
+        let past = output::put_byte(out, to, b' ');
+        return output::put_decimal(out, past, count as u64);
+    }
+    output::put_decimal(out, to, count as u64)
 }

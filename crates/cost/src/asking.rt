@@ -1,4 +1,5 @@
 // What a round asks of the node. The streams have a number k each, 0 to 63; 32 of them are set up.
+use node::Node;
 use wire::settings::Settings;
 ghost use Prim.Native.Nat.{_≤_};
 
@@ -14,45 +15,27 @@ pub struct Asked {
     pub settings: Settings,
 }
 
-const ROOM: usize = 512;
+const ROOM: usize = Node::TICK_ROOM;
 
-pub fn stream_of(k: u32) -> u32
+// The longest payload that is asked for, one byte more than a frame has.
+pub(crate) const LARGEST: usize = 9;
+
+pub(crate) fn stream_of(k: u32) -> u32
     ensures { λ r. ⌜ r ≤ 258242 ⌝ }
 {
     (k % 64 * 13 + 7) % 64 * 4099 + 5
 }
 
 // The settings of a stream of this role and class.
-pub fn settings_of(role: u8, class: u32) -> Settings {
+pub(crate) fn settings_of(role: u8, class: u32) -> Settings {
     match class {
-        0 => Settings {
-            rd: 0,
-            dc: 0,
-            ra: 0,
-            dd: 0,
-            role,
-            class: Settings::PLAIN,
-        },
-        1 => Settings {
-            rd: 50,
-            dc: 0,
-            ra: 0,
-            dd: 100,
-            role,
-            class: Settings::IMD,
-        },
-        _ => Settings {
-            rd: 50,
-            dc: 80,
-            ra: 10,
-            dd: 100,
-            role,
-            class: Settings::TWO_MESSAGE,
-        },
+        0 => Settings::of_plain(role),
+        1 => Settings::of_imd(role, 50, 100),
+        _ => Settings::of_two_message(role, 50, 80, 10, 100),
     }
 }
 
-pub fn payload_of(first: u8) -> [u8; 9] {
+pub(crate) fn payload_of(first: u8) -> [u8; LARGEST] {
     [first, 1, 2, 3, 4, 5, 6, 7, 8]
 }
 
@@ -100,7 +83,7 @@ fn wide(len: u8) -> usize {
 
 // A frame: one in sixteen each with short output, a DLC that is one too high, an unknown stream and
 // any code; one in eight each with another first byte and with a byte less.
-pub fn frame(random: u32) -> Asked {
+pub(crate) fn frame(random: u32) -> Asked {
     let h = random / 65536;
     let k = h % 32;
     let kind = h / 32 % 16;
@@ -112,15 +95,15 @@ pub fn frame(random: u32) -> Asked {
     Asked {
         number: (stream_of(k) + flag(kind == 2)) * 4 + code,
         dlc,
-        len: if dlc == 9 { 9 } else { wide(len) },
+        len: if dlc == 9 { LARGEST } else { wide(len) },
         first: (other / 7) as u8,
-        room: if kind == 0 { 15 } else { ROOM },
+        room: if kind == 0 { Node::HEAR_ROOM - 1 } else { ROOM },
         settings: settings_of(0, 0),
     }
 }
 
 // A request: one in eight each of an unknown stream and with nine bytes.
-pub fn message(random: u32) -> Asked {
+pub(crate) fn message(random: u32) -> Asked {
     let h = random / 65536;
     let k = h % 32;
     let kind = h / 32 % 8;
@@ -128,7 +111,7 @@ pub fn message(random: u32) -> Asked {
     Asked {
         number: stream_of(k) + flag(kind == 0),
         dlc: len,
-        len: if kind == 1 { 9 } else { wide(len) },
+        len: if kind == 1 { LARGEST } else { wide(len) },
         first: (h % 256) as u8,
         room: ROOM,
         settings: settings_of(0, 0),
@@ -136,7 +119,7 @@ pub fn message(random: u32) -> Asked {
 }
 
 // A set up: one in sixteen each with a role that is none, and of the first stream again.
-pub fn stream(i: u64, random: u32) -> Asked {
+pub(crate) fn stream(i: u64, random: u32) -> Asked {
     let h = random / 65536;
     let kind = h % 16;
     let k = if kind == 1 { 0 } else { (i % 40) as u32 };
@@ -152,7 +135,7 @@ pub fn stream(i: u64, random: u32) -> Asked {
 }
 
 // Every eighth stream is sent.
-pub fn role_of(k: u32) -> u8 {
+pub(crate) fn role_of(k: u32) -> u8 {
     if k % 8 == 7 {
         Settings::SEND
     } else {
@@ -161,7 +144,7 @@ pub fn role_of(k: u32) -> u8 {
 }
 
 // A tick or a next frame asks for nothing but output.
-pub fn nothing() -> Asked {
+pub(crate) fn nothing() -> Asked {
     Asked {
         number: 0,
         dlc: 0,

@@ -3,10 +3,11 @@
 // the rounds call the node, so that the cost of the rounds without their calls can be told.
 use crate::asking;
 use crate::asking::Asked;
-use crate::numbers;
+use crate::checksum;
 use crate::starting;
 use crate::starting::Streams;
 use node::Node;
+use text::least;
 use text::words;
 use wire::ids::BusId;
 use wire::ids::Stream;
@@ -37,7 +38,7 @@ pub enum Named {
     Unknown,
 }
 
-pub fn work_named(word: &[u8]) -> Named {
+pub(crate) fn work_named(word: &[u8]) -> Named {
     if words::is(word, b"hear") {
         return Named::Is(Work::Hear);
     }
@@ -143,7 +144,7 @@ fn asked_of(call: Call, i: u64, random: u32) -> Asked {
 }
 
 // The checksum after so many rounds.
-pub fn run(work: Work, rounds: u64, calls: u64) -> u32 {
+pub(crate) fn run(work: Work, rounds: u64, calls: u64) -> u32 {
     let period = period_of(work);
     let start = start_of(work);
     let mut node = start;
@@ -154,13 +155,13 @@ pub fn run(work: Work, rounds: u64, calls: u64) -> u32 {
         if i % period == 0 {
             node = start;
         }
-        random = numbers::next(random);
+        random = checksum::next(random);
         let call = call_of(work, random);
         let asked = asked_of(call, i, random);
-        let mut out = [0u8; 512];
+        let mut out = [0u8; Node::TICK_ROOM];
         let payload = asking::payload_of(asked.first);
-        let len = numbers::least(asked.len, 9);
-        let room = numbers::least(asked.room, 512);
+        let len = least(asked.len, asking::LARGEST);
+        let room = least(asked.room, Node::TICK_ROOM);
         let mut reply: u32 = 0;
         let mut id: u32 = 0;
         let mut count: usize = 0;
@@ -207,10 +208,10 @@ pub fn run(work: Work, rounds: u64, calls: u64) -> u32 {
                 }
             }
         }
-        sum = numbers::mixed(sum, reply);
-        sum = numbers::mixed(sum, id);
-        sum = numbers::mixed(sum, numbers::small(count));
-        sum = numbers::mixed_some(sum, &out, random);
+        sum = checksum::mixed(sum, reply);
+        sum = checksum::mixed(sum, id);
+        sum = checksum::mixed(sum, checksum::small(count));
+        sum = checksum::mixed_some(sum, &out, random);
         i += 1;
     }
     ended(node, sum)
@@ -218,12 +219,12 @@ pub fn run(work: Work, rounds: u64, calls: u64) -> u32 {
 
 // The checksum with what the node does at a next frame and a tick.
 fn ended(node: Node, sum: u32) -> u32 {
-    let mut out = [0u8; 512];
+    let mut out = [0u8; Node::TICK_ROOM];
     let given = node.next_frame(&mut out);
     let mid = given.node;
     let delivered = mid.tick(&mut out);
     let last = delivered.node;
-    let with_id = numbers::mixed(sum, given.id.0);
-    let with_counter = numbers::mixed(with_id, last.counter as u32);
-    numbers::mixed_bytes(with_counter, &out)
+    let with_id = checksum::mixed(sum, given.id.0);
+    let with_counter = checksum::mixed(with_id, last.counter as u32);
+    checksum::mixed_bytes(with_counter, &out)
 }

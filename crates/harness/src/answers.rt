@@ -1,4 +1,4 @@
-// The state that the lines drive, and how an answer is written. Each part of an answer makes room for itself.
+// The state that the lines drive, and the answers to them.
 use bench_in_code::Bench;
 use text::Buffer;
 use text::output;
@@ -20,8 +20,11 @@ pub struct Answer {
 }
 
 impl State {
+    // The fewest modules of a bench.
+    pub const LEAST: usize = 2;
+
     // A bench of so many fresh modules.
-    pub fn of(modules: usize) -> State {
+    pub(crate) fn of(modules: usize) -> State {
         State {
             bench: Bench::of(modules),
             modules,
@@ -30,7 +33,7 @@ impl State {
     }
 
     // The same but for the bench.
-    pub fn with(self, bench: Bench) -> State
+    pub(crate) fn with(self, bench: Bench) -> State
         ensures { λ r. ⌜ (r .bench ≡ bench) × ((r .modules ≡ self .modules) × (r .ticks ≡ self .ticks)) ⌝ }
     {
         State {
@@ -42,43 +45,19 @@ impl State {
 }
 
 // The answer to a line that can't be read: nothing changes.
-pub fn unread(state: State, out: &mut Buffer, to: usize) -> Answer
+pub(crate) fn unread(state: State, out: &mut Buffer, to: usize) -> Answer
     ensures { λ r. ⌜ r .state ≡ state ⌝ }
 {
     Answer {
         state,
-        to: put_byte(out, to, b'?'),
+        to: output::put_byte(out, to, b'?'),
     }
 }
 
-pub fn put_byte(out: &mut Buffer, to: usize, b: u8) -> usize {
-    let at = output::room(out, to);
-    output::put_byte(out, at, b)
+pub(crate) fn put_reply(out: &mut Buffer, to: usize, reply: Reply) -> usize {
+    output::put_decimal(out, to, reply.number() as u64)
 }
 
-pub fn put_number(out: &mut Buffer, to: usize, n: u64) -> usize {
-    let at = output::room(out, to);
-    output::put_decimal(out, at, n)
-}
-
-// A number, and a byte after it.
-pub fn put_parted(out: &mut Buffer, to: usize, n: u64, b: u8) -> usize {
-    let past = put_number(out, to, n);
-    put_byte(out, past, b)
-}
-
-pub fn put_reply(out: &mut Buffer, to: usize, reply: Reply) -> usize {
-    put_number(out, to, reply.number() as u64)
-}
-
-pub fn put_dead(out: &mut Buffer, to: usize) -> usize {
-    let at = output::room(out, to);
-    output::put(out, at, b"dead")
-}
-
-// The first of the bytes in hex, at most 64 of them.
-pub fn put_payload(out: &mut Buffer, to: usize, bytes: &[u8]) -> usize {
-    let at = output::room(out, to);
-    let n = crate::numbers::least(bytes.len(), 64);
-    output::put_hex(out, at, &bytes[0..n])
+pub(crate) fn put_dead(out: &mut Buffer, to: usize) -> usize {
+    output::put(out, to, b"dead")
 }

@@ -3,15 +3,21 @@ use crate::answers;
 use crate::answers::Answer;
 use crate::answers::State;
 use crate::lines::Verb;
-use crate::numbers;
+use crate::names;
 use crate::ticking;
 use text::Buffer;
+use text::numbers;
+use text::part;
+use text::payloads;
 use text::words;
 use wire::ids::Stream;
 use wire::reply::Reply;
 use wire::settings::Settings;
 
-pub fn line(verb: Verb, state: State, line: &[u8], out: &mut Buffer, to: usize) -> Answer {
+// The most bytes of a payload that can be read.
+const PAYLOAD: usize = 64;
+
+pub(crate) fn line(verb: Verb, state: State, line: &[u8], out: &mut Buffer, to: usize) -> Answer {
     let w = words::word_at(line, 0);
     let at = w.next;
     match verb {
@@ -27,24 +33,24 @@ pub fn line(verb: Verb, state: State, line: &[u8], out: &mut Buffer, to: usize) 
 
 // setup M STREAM ROLE CLASS RD DC RA DD
 fn setup(state: State, line: &[u8], at: usize, out: &mut Buffer, to: usize) -> Answer {
-    let who = numbers::module_at(line, at, state.modules);
-    let stream = numbers::long_at(line, who.next);
-    let role = numbers::small_at(line, stream.next);
-    let class = numbers::small_at(line, role.next);
-    let rd = numbers::ticks_at(line, class.next);
-    let dc = numbers::ticks_at(line, rd.next);
-    let ra = numbers::ticks_at(line, dc.next);
-    let dd = numbers::ticks_at(line, ra.next);
+    let who = names::module_at(line, at, state.modules);
+    let stream = numbers::u32_at(line, who.next, u32::MAX);
+    let role = numbers::u8_at(line, stream.next, u8::MAX);
+    let class = numbers::u8_at(line, role.next, u8::MAX);
+    let rd = numbers::u16_at(line, class.next, u16::MAX);
+    let dc = numbers::u16_at(line, rd.next, u16::MAX);
+    let ra = numbers::u16_at(line, dc.next, u16::MAX);
+    let dd = numbers::u16_at(line, ra.next, u16::MAX);
     let numbers_ok = rd.ok & dc.ok & ra.ok & dd.ok & words::done(line, dd.next);
     if who.ok & stream.ok & role.ok & class.ok & numbers_ok {
-        let settings = Settings {
-            rd: rd.value,
-            dc: dc.value,
-            ra: ra.value,
-            dd: dd.value,
-            role: role.value,
-            class: class.value,
-        };
+        let settings = Settings::of(
+            role.value,
+            class.value,
+            rd.value,
+            dc.value,
+            ra.value,
+            dd.value,
+        );
         let bench = state.bench;
         let asked = bench.set_up(who.value, Stream(stream.value), settings);
         let reply = asked.reply;
@@ -58,14 +64,17 @@ fn setup(state: State, line: &[u8], at: usize, out: &mut Buffer, to: usize) -> A
 
 // request M STREAM PAYLOAD
 fn request(state: State, line: &[u8], at: usize, out: &mut Buffer, to: usize) -> Answer {
-    let who = numbers::module_at(line, at, state.modules);
-    let stream = numbers::long_at(line, who.next);
-    let payload = words::payload_at(line, stream.next);
+    let mut bytes = [0u8; PAYLOAD];
+    let who = names::module_at(line, at, state.modules);
+    let stream = numbers::u32_at(line, who.next, u32::MAX);
+    let payload = payloads::payload_at(line, stream.next, &mut bytes);
     if who.ok & stream.ok & payload.ok & words::done(line, payload.next) {
-        let bytes = payload.bytes;
-        let len = numbers::least(payload.len, 64);
         let bench = state.bench;
-        let asked = bench.request(who.value, Stream(stream.value), &bytes[0..len]);
+        let asked = bench.request(
+            who.value,
+            Stream(stream.value),
+            part(&bytes, 0, payload.len),
+        );
         let reply = asked.reply;
         return Answer {
             state: state.with(asked.bench),
@@ -85,7 +94,7 @@ fn put_asked(out: &mut Buffer, to: usize, there: bool, reply: Reply) -> usize {
 
 // death M
 fn death(state: State, line: &[u8], at: usize, out: &mut Buffer, to: usize) -> Answer {
-    let who = numbers::module_at(line, at, state.modules);
+    let who = names::module_at(line, at, state.modules);
     if who.ok & words::done(line, who.next) {
         let bench = state.bench;
         return Answer {

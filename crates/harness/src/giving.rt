@@ -2,12 +2,15 @@
 use crate::answers;
 use crate::answers::State;
 use crate::lines::Verb;
-use crate::numbers;
+use crate::names;
+use bench_in_code::Bench;
 use bench_in_code::Giving;
 use bench_in_code::outbox::Frame;
 use bench_in_code::outbox::Frames;
 use text::Buffer;
+use text::numbers;
 use text::output;
+use text::part;
 use text::words;
 use wire::reply::Reply;
 ghost use mathlib.Core.Path.{_≡_};
@@ -19,7 +22,7 @@ pub struct Gave {
     pub to: usize,
 }
 
-pub fn line(
+pub(crate) fn line(
     verb: Verb,
     state: State,
     frames: Frames,
@@ -44,14 +47,13 @@ fn modules(
     out: &mut Buffer,
     to: usize,
 ) -> Gave {
-    let n = words::number_at(line, at, 8);
-    if n.ok & (2 <= n.value) & words::done(line, n.next) {
-        let room = output::room(out, to);
-        let past = output::put(out, room, b"modules ");
+    let n = numbers::usize_at(line, at, Bench::PLACES);
+    if n.ok & (State::LEAST <= n.value) & words::done(line, n.next) {
+        let past = output::put(out, to, b"modules ");
         return Gave {
             frames: Frames::none(),
-            state: State::of(n.value as usize),
-            to: answers::put_number(out, past, n.value),
+            state: State::of(n.value),
+            to: output::put_decimal(out, past, n.value as u64),
         };
     }
     unread(state, frames, out, to)
@@ -59,7 +61,7 @@ fn modules(
 
 // give M
 fn give(state: State, frames: Frames, line: &[u8], at: usize, out: &mut Buffer, to: usize) -> Gave {
-    let who = numbers::module_at(line, at, state.modules);
+    let who = names::module_at(line, at, state.modules);
     if who.ok & words::done(line, who.next) {
         let bench = state.bench;
         let gave = bench.give(who.value, frames);
@@ -83,7 +85,7 @@ fn unread(state: State, frames: Frames, out: &mut Buffer, to: usize) -> Gave
     Gave {
         frames,
         state,
-        to: answers::put_byte(out, to, b'?'),
+        to: output::put_byte(out, to, b'?'),
     }
 }
 
@@ -91,7 +93,7 @@ fn put_giving(out: &mut Buffer, to: usize, giving: Giving, number: usize, frame:
     match giving {
         Giving::Dead => answers::put_dead(out, to),
         Giving::Nothing => answers::put_reply(out, to, Reply::Nothing),
-        Giving::Full => answers::put_byte(out, to, b'?'),
+        Giving::Full => output::put_byte(out, to, b'?'),
         Giving::Out => put_frame(out, to, number, frame),
     }
 }
@@ -99,11 +101,10 @@ fn put_giving(out: &mut Buffer, to: usize, giving: Giving, number: usize, frame:
 // `0 FRAME IDENT PAYLOAD`.
 fn put_frame(out: &mut Buffer, to: usize, number: usize, frame: Frame) -> usize {
     let reply = answers::put_reply(out, to, Reply::Done);
-    let start = answers::put_byte(out, reply, b' ');
-    let mid = answers::put_parted(out, start, number as u64, b' ');
+    let start = output::put_byte(out, reply, b' ');
+    let mid = output::put_parted(out, start, number as u64, b' ');
     let id = frame.id;
-    let past = answers::put_parted(out, mid, id.0 as u64, b' ');
+    let past = output::put_parted(out, mid, id.0 as u64, b' ');
     let bytes = frame.all_bytes();
-    let n = frame.payload_length();
-    answers::put_payload(out, past, &bytes[0..n])
+    output::put_hex(out, past, part(&bytes, 0, frame.payload_length()))
 }

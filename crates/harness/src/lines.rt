@@ -1,10 +1,9 @@
 // The line at hand, and what its first word asks for.
-use crate::answers;
-use crate::numbers;
 use text::Buffer;
 use text::input::Kind;
 use text::input::Step;
 use text::output;
+use text::part;
 use text::words;
 
 // What a line goes by: the frames given out change, one of them is sent, or they are left alone.
@@ -32,16 +31,8 @@ pub enum Verb {
     Wait,
 }
 
-// The bytes of the line, which are none where no line is at hand.
-pub fn bytes(step: Step, buf: &Buffer) -> &[u8] {
-    let all = &buf[..];
-    let end = numbers::least(step.end, all.len());
-    let start = numbers::least(step.start, end);
-    &all[start..end]
-}
-
 // Whether the line of which more is to be read is a comment. Where its first bytes were dropped, that was seen before.
-pub fn is_comment(step: Step, before: bool, buf: &Buffer) -> bool {
+pub(crate) fn is_comment(step: Step, before: bool, buf: &Buffer) -> bool {
     let kind = step.kind;
     let input = step.input;
     let Kind::More = kind else {
@@ -57,7 +48,7 @@ fn is_hash(s: &[u8], at: usize) -> bool {
     if at < s.len() { s[at] == b'#' } else { false }
 }
 
-pub fn verb_at(step: Step, comment: bool, line: &[u8]) -> Verb {
+pub(crate) fn verb_at(step: Step, comment: bool, line: &[u8]) -> Verb {
     let kind = step.kind;
     match kind {
         Kind::Line => verb_of(line),
@@ -77,9 +68,7 @@ fn verb_of(line: &[u8]) -> Verb {
         return Verb::Skip;
     }
     let w = words::word_at(line, 0);
-    let start = w.start;
-    let end = w.end;
-    named(&line[start..end])
+    named(part(line, w.start, w.end))
 }
 
 fn is_skipped(line: &[u8]) -> bool {
@@ -117,7 +106,7 @@ fn named(word: &[u8]) -> Verb {
     Verb::Unknown
 }
 
-pub fn route_of(verb: Verb) -> Route {
+pub(crate) fn route_of(verb: Verb) -> Route {
     match verb {
         Verb::Modules => Route::Giving,
         Verb::SetUp => Route::Other,
@@ -134,11 +123,11 @@ pub fn route_of(verb: Verb) -> Route {
     }
 }
 
-// Ends an answer with its newline. Before more is read, what was answered is printed.
-pub fn ended(verb: Verb, out: &mut Buffer, to: usize) -> usize {
+// Ends an answer with its newline.
+pub(crate) fn ended(verb: Verb, out: &mut Buffer, to: usize) -> usize {
     match verb {
         Verb::Skip => to,
-        Verb::Wait => output::flush(out, to),
-        _ => answers::put_byte(out, to, b'\n'),
+        Verb::Wait => to,
+        _ => output::put_byte(out, to, b'\n'),
     }
 }

@@ -2,6 +2,7 @@
 use crate::answers::State;
 use crate::lines::Route;
 use bench_in_code::outbox::Frames;
+use text::SIZE;
 use text::input;
 use text::input::Input;
 
@@ -9,14 +10,14 @@ mod answers;
 mod asking;
 mod giving;
 mod lines;
-mod numbers;
+mod names;
 mod records;
 mod sending;
 mod ticking;
 
 fn main() {
-    let mut buf = [0u8; 65536];
-    let mut out = [0u8; 65536];
+    let mut buf = [0u8; SIZE];
+    let mut out = [0u8; SIZE];
     let mut input = Input::new();
     let mut comment = false;
     let mut state = State::of(0);
@@ -27,7 +28,7 @@ fn main() {
         turns -= 1;
         let step = input.next(&buf);
         comment = lines::is_comment(step, comment, &buf);
-        let line = lines::bytes(step, &buf);
+        let line = input::line(step, &buf);
         let verb = lines::verb_at(step, comment, line);
         let route = lines::route_of(verb);
         match route {
@@ -50,9 +51,11 @@ fn main() {
             }
         }
         to = lines::ended(verb, &mut out, to);
+        let on = input::advance(step, &mut buf, &out, to);
         if input::is_end(step) {
             return;
         }
-        input = input::advance(step, &mut buf);
+        input = on.input;
+        to = on.to;
     }
 }

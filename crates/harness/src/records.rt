@@ -1,12 +1,9 @@
-// What a module delivered: records one after the other, each with its length (the bytes that follow it), kind, stream and payload.
-use crate::answers;
-use crate::numbers;
+// What a module delivered: records one after the other.
 use text::Buffer;
-ghost use Prim.Native.Nat.{_+_, _≤_, _<_};
-ghost use lib.ListN.{length};
-
-// The bytes of a record before its payload.
-const HEAD: usize = 8;
+use text::output;
+use text::part;
+use wire::delivered::RecordAt;
+use wire::delivered::record_at;
 
 // When and where records were delivered.
 pub struct Place {
@@ -17,59 +14,37 @@ pub struct Place {
 }
 
 // ` TICK:M:STREAM:PAYLOAD` for each record, without the tick where it is not asked for.
-pub fn put_all(out: &mut Buffer, to: usize, place: Place, records: &[u8]) -> usize {
+pub(crate) fn put_all(out: &mut Buffer, to: usize, place: Place, records: &[u8]) -> usize {
     let mut past = to;
     let mut at = 0;
     while at < records.len() {
-        let size = size_at(records, at);
+        let record = record_at(records, at);
+        if !record.ok {
+            return past;
+        }
         let start = put_place(out, past, place);
-        past = put_record(out, start, &records[at..at + size]);
-        at += size;
+        past = put_record(out, start, records, record);
+        at = record.next;
     }
     past
 }
 
 fn put_place(out: &mut Buffer, to: usize, place: Place) -> usize {
-    let start = answers::put_byte(out, to, b' ');
+    let start = output::put_byte(out, to, b' ');
     if place.dated {
-        let past = answers::put_parted(out, start, place.tick, b':');
-        return answers::put_parted(out, past, place.module as u64, b':');
+        let past = output::put_parted(out, start, place.tick, b':');
+        return output::put_parted(out, past, place.module as u64, b':');
     }
-    answers::put_parted(out, start, place.module as u64, b':')
+    output::put_parted(out, start, place.module as u64, b':')
 }
 
-// The first bytes of an output, so many as were written.
-pub fn first(output: &[u8], written: usize) -> &[u8] {
-    let n = numbers::least(written, output.len());
-    &output[0..n]
+// `STREAM:PAYLOAD` of the first record.
+pub(crate) fn put_first(out: &mut Buffer, to: usize, records: &[u8]) -> usize {
+    put_record(out, to, records, record_at(records, 0))
 }
 
-// How many bytes the record at an index has, which are at least one and no more than there are.
-fn size_at(records: &[u8], at: usize) -> usize
-    requires { ⌜ at < length (now records) ⌝ }
-    ensures { λ r. ⌜ (1 ≤ r) × (at + r ≤ length (now (records .entry))) ⌝ }
-{
-    let left = records.len() - at;
-    if left < HEAD {
-        return left;
-    }
-    let size = 2 + number_of(records[at], records[at + 1]);
-    if size < left { size } else { left }
-}
-
-// `STREAM:PAYLOAD`.
-pub fn put_record(out: &mut Buffer, to: usize, record: &[u8]) -> usize {
-    if record.len() < HEAD {
-        return to;
-    }
-    let low = number_of(record[4], record[5]);
-    let high = number_of(record[6], record[7]);
-    let past = answers::put_parted(out, to, (low + high * 65536) as u64, b':');
-    answers::put_payload(out, past, &record[HEAD..])
-}
-
-fn number_of(low: u8, high: u8) -> usize
-    ensures { λ r. ⌜ r ≤ 65535 ⌝ }
-{
-    low as usize + high as usize * 256
+fn put_record(out: &mut Buffer, to: usize, records: &[u8], record: RecordAt) -> usize {
+    let stream = record.stream;
+    let past = output::put_parted(out, to, stream.0 as u64, b':');
+    output::put_hex(out, past, part(records, record.payload, record.next))
 }

@@ -3,12 +3,15 @@ use crate::answers;
 use crate::answers::Answer;
 use crate::answers::State;
 use crate::lines::Verb;
-use crate::numbers;
+use crate::names;
 use crate::records;
+use bench_in_code::Bench;
 use bench_in_code::outbox::Frame;
 use bench_in_code::outbox::Frames;
 use bench_in_code::stations::Said;
 use text::Buffer;
+use text::output;
+use text::part;
 use text::words;
 
 // The frame that a line names, and the index of the next word.
@@ -18,9 +21,9 @@ pub struct Named {
     pub next: usize,
 }
 
-pub fn frame_in(frames: Frames, line: &[u8]) -> Named {
+pub(crate) fn frame_in(frames: Frames, line: &[u8]) -> Named {
     let w = words::word_at(line, 0);
-    let name = numbers::frame_at(line, w.next, frames.count);
+    let name = names::frame_at(line, w.next, frames.count);
     Named {
         ok: name.ok,
         frame: frames.at(name.value),
@@ -31,10 +34,10 @@ pub fn frame_in(frames: Frames, line: &[u8]) -> Named {
 // Those that are to hear a sending.
 struct Hearers {
     ok: bool,
-    to: [bool; 8],
+    to: [bool; Bench::PLACES],
 }
 
-pub fn line(
+pub(crate) fn line(
     verb: Verb,
     state: State,
     named: Named,
@@ -53,7 +56,7 @@ pub fn line(
 fn full(state: State, named: Named, line: &[u8], out: &mut Buffer, to: usize) -> Answer {
     if named.ok & words::done(line, named.next) {
         let frame = named.frame;
-        return send(state, frame, [true; 8], out, to);
+        return send(state, frame, [true; Bench::PLACES], out, to);
     }
     answers::unread(state, out, to)
 }
@@ -72,10 +75,10 @@ fn short(state: State, named: Named, line: &[u8], out: &mut Buffer, to: usize) -
 // The modules that the words from an index on name.
 fn hearers_at(line: &[u8], at: usize, modules: usize) -> Hearers {
     let mut ok = true;
-    let mut to = [false; 8];
+    let mut to = [false; Bench::PLACES];
     let mut next = at;
     while next <= line.len() {
-        let name = numbers::module_at(line, next, modules);
+        let name = names::module_at(line, next, modules);
         let who = name.value;
         ok = ok & name.ok;
         to[who] = true;
@@ -84,7 +87,13 @@ fn hearers_at(line: &[u8], at: usize, modules: usize) -> Hearers {
     Hearers { ok, to }
 }
 
-fn send(state: State, frame: Frame, hearers: [bool; 8], out: &mut Buffer, to: usize) -> Answer {
+fn send(
+    state: State,
+    frame: Frame,
+    hearers: [bool; Bench::PLACES],
+    out: &mut Buffer,
+    to: usize,
+) -> Answer {
     let bench = state.bench;
     let sent = bench.send(frame, hearers);
     let said = sent.said;
@@ -94,14 +103,14 @@ fn send(state: State, frame: Frame, hearers: [bool; 8], out: &mut Buffer, to: us
     }
 }
 
-fn put_sent(out: &mut Buffer, to: usize, sent: bool, said: [Said; 8]) -> usize {
+fn put_sent(out: &mut Buffer, to: usize, sent: bool, said: [Said; Bench::PLACES]) -> usize {
     if !sent {
         return answers::put_dead(out, to);
     }
     let mut past = to;
     let mut heard = false;
     let mut i = 0;
-    while i < 8 {
+    while i < Bench::PLACES {
         let s = said[i];
         past = put_hearing(out, past, i, heard, s);
         heard = heard | s.heard;
@@ -110,7 +119,7 @@ fn put_sent(out: &mut Buffer, to: usize, sent: bool, said: [Said; 8]) -> usize {
     if heard {
         past
     } else {
-        answers::put_byte(out, past, b'-')
+        output::put_byte(out, past, b'-')
     }
 }
 
@@ -121,20 +130,20 @@ fn put_hearing(out: &mut Buffer, to: usize, module: usize, more: bool, said: Sai
         return to;
     }
     let start = put_space(out, to, more);
-    let mid = answers::put_parted(out, start, module as u64, b':');
+    let mid = output::put_parted(out, start, module as u64, b':');
     let reply = said.reply;
     let past = answers::put_reply(out, mid, reply);
     if said.len == 0 {
         return past;
     }
     let bytes = said.bytes;
-    let end = answers::put_byte(out, past, b':');
-    records::put_record(out, end, records::first(&bytes, said.len))
+    let end = output::put_byte(out, past, b':');
+    records::put_first(out, end, part(&bytes, 0, said.len))
 }
 
 fn put_space(out: &mut Buffer, to: usize, wanted: bool) -> usize {
     if wanted {
-        answers::put_byte(out, to, b' ')
+        output::put_byte(out, to, b' ')
     } else {
         to
     }

@@ -4,26 +4,33 @@ use crate::answers::Answer;
 use crate::answers::State;
 use crate::records;
 use crate::records::Place;
+use bench_in_code::Bench;
 use bench_in_code::stations::Said;
 use text::Buffer;
+use text::numbers;
+use text::output;
+use text::part;
 use text::words;
 
+// The most ticks of one line.
+const TICKS: u64 = 1000000;
+
 // tick
-pub fn tick(state: State, line: &[u8], at: usize, out: &mut Buffer, to: usize) -> Answer {
+pub(crate) fn tick(state: State, line: &[u8], at: usize, out: &mut Buffer, to: usize) -> Answer {
     if (state.modules == 0) | !words::done(line, at) {
         return answers::unread(state, out, to);
     }
-    let past = answers::put_number(out, to, later(state.ticks, 1));
+    let past = output::put_decimal(out, to, later(state.ticks, 1));
     run(state, 1, false, out, past)
 }
 
 // ticks N
-pub fn ticks(state: State, line: &[u8], at: usize, out: &mut Buffer, to: usize) -> Answer {
-    let n = words::number_at(line, at, 1000000);
+pub(crate) fn ticks(state: State, line: &[u8], at: usize, out: &mut Buffer, to: usize) -> Answer {
+    let n = numbers::number_at(line, at, TICKS);
     if (state.modules == 0) | !n.ok | !words::done(line, n.next) {
         return answers::unread(state, out, to);
     }
-    let past = answers::put_number(out, to, later(state.ticks, n.value));
+    let past = output::put_decimal(out, to, later(state.ticks, n.value));
     run(state, n.value, true, out, past)
 }
 
@@ -56,10 +63,16 @@ fn run(state: State, n: u64, dated: bool, out: &mut Buffer, to: usize) -> Answer
     }
 }
 
-fn put_told(out: &mut Buffer, to: usize, said: [Said; 8], tick: u64, dated: bool) -> usize {
+fn put_told(
+    out: &mut Buffer,
+    to: usize,
+    said: [Said; Bench::PLACES],
+    tick: u64,
+    dated: bool,
+) -> usize {
     let mut past = to;
     let mut i = 0;
-    while i < 8 {
+    while i < Bench::PLACES {
         let s = said[i];
         let place = Place {
             module: i,
@@ -74,5 +87,5 @@ fn put_told(out: &mut Buffer, to: usize, said: [Said; 8], tick: u64, dated: bool
 
 fn put_said(out: &mut Buffer, to: usize, place: Place, said: Said) -> usize {
     let bytes = said.bytes;
-    records::put_all(out, to, place, records::first(&bytes, said.len))
+    records::put_all(out, to, place, part(&bytes, 0, said.len))
 }

@@ -1,5 +1,7 @@
 // Stands for the controller, the timer and the application: a script of what each turn finds, and a line
 // of text for what each is told. Firmware has its registers and queues here.
+use module::tally::Tally;
+use node::slots::Message;
 use wire::ids::BusId;
 
 // What a turn of the loop finds.
@@ -8,7 +10,7 @@ pub struct Seen {
     pub received: bool,
     pub id: u32,
     pub dlc: u8,
-    pub bytes: [u8; 8],
+    pub bytes: [u8; Message::MAX_LEN],
     // The timer's period is over.
     pub elapsed: bool,
     // The application has new state to send.
@@ -24,7 +26,7 @@ const TIMER: Seen = Seen {
     received: false,
     id: 0,
     dlc: 0,
-    bytes: [0; 8],
+    bytes: [0; Message::MAX_LEN],
     elapsed: true,
     wanted: false,
     state: 0,
@@ -34,7 +36,7 @@ const TIMER: Seen = Seen {
 
 // File 7 is announced twice, since its first sending failed half way, and confirmed; a frame of a stream
 // that this store has not set up comes by; the state changes twice; file 8 is never confirmed.
-pub fn look(turn: u64) -> Seen {
+pub(crate) fn look(turn: u64) -> Seen {
     match turn {
         2 => frame(20, 2, 7),
         4 => frame(20, 2, 7),
@@ -72,13 +74,13 @@ fn off() -> Seen {
 }
 
 // A delivered record, for the application.
-pub fn delivered(record: &[u8]) {
+pub(crate) fn delivered(record: &[u8]) {
     io::write_all(1, b"delivered ");
     hex(record);
 }
 
 // A frame, for the controller.
-pub fn sent(id: BusId, payload: &[u8]) {
+pub(crate) fn sent(id: BusId, payload: &[u8]) {
     io::write_all(1, b"sent ");
     io::print_decimal(1, id.0 as u64);
     if payload.len() > 0 {
@@ -87,11 +89,11 @@ pub fn sent(id: BusId, payload: &[u8]) {
     hex(payload);
 }
 
-// The counts of the replies, from number 0 to 12.
-pub fn counted(counts: &[u32; 13]) {
+// The counts of the replies, in the order of their numbers.
+pub(crate) fn counted(counts: &[u32; Tally::SIZE]) {
     io::write_all(1, b"tally");
     let mut i = 0;
-    while i < 13 {
+    while i < Tally::SIZE {
         io::write_all(1, b" ");
         io::print_decimal(1, wide(counts[i]));
         i += 1;
@@ -100,7 +102,7 @@ pub fn counted(counts: &[u32; 13]) {
 }
 
 // A stream was refused at the start: nothing goes on the bus.
-pub fn halt() {
+pub(crate) fn halt() {
     io::write_all(1, b"halted\n");
 }
 

@@ -4,6 +4,7 @@ use crate::board::Seen;
 use crate::store::STATE;
 use crate::store::STREAMS;
 use crate::store::Store;
+use node::Node;
 use wire::ids::BusId;
 use wire::reply::Reply;
 
@@ -49,7 +50,7 @@ fn hear(store: Store, seen: Seen) -> Store {
     let bytes = seen.bytes;
     let data = &bytes[..];
     let len = records::least(seen.dlc as usize, data.len());
-    let mut out = [0u8; 16];
+    let mut out = [0u8; Node::HEAR_ROOM];
     let node = store.node;
     let answer = node.hear(BusId(seen.id), seen.dlc, &data[0..len], &mut out);
     let reply = answer.reply;
@@ -59,7 +60,7 @@ fn hear(store: Store, seen: Seen) -> Store {
 
 // The timer's period is over.
 fn tick(store: Store) -> Store {
-    let mut out = [0u8; 512];
+    let mut out = [0u8; Node::TICK_ROOM];
     let node = store.node;
     let answer = node.tick(&mut out);
     let reply = answer.reply;
@@ -90,12 +91,12 @@ fn give(store: Store, seen: Seen) -> Store {
     if !seen.ready {
         return store;
     }
-    let mut out = [0u8; 8];
+    let mut out = [0u8; Node::NEXT_ROOM];
     let node = store.node;
     let answer = node.next_frame(&mut out);
     let reply = answer.reply;
     if reply.number() == Reply::Done.number() {
-        let len = records::least(answer.len, 8);
+        let len = records::least(answer.len, Node::NEXT_ROOM);
         board::sent(answer.id, &out[0..len]);
     }
     store.after(answer.node, reply)

@@ -9,28 +9,10 @@ use wire::settings::Settings;
 // Numbers of files, which every store receives.
 const FILES: Stream = Stream(5);
 
-const FILES_SETTINGS: Settings = Settings {
-    rd: 6,
-    dc: 6,
-    ra: 7,
-    dd: 14,
-    role: Settings::RECEIVE,
-    class: Settings::TWO_MESSAGE,
-};
-
 // This store's own state.
-pub const STATE: Stream = Stream(6);
+pub(crate) const STATE: Stream = Stream(6);
 
-const STATE_SETTINGS: Settings = Settings {
-    rd: 8,
-    dc: 0,
-    ra: 0,
-    dd: 8,
-    role: Settings::SEND,
-    class: Settings::IMD,
-};
-
-pub const STREAMS: u32 = 2;
+pub(crate) const STREAMS: u32 = 2;
 
 pub struct Store {
     pub node: Node,
@@ -42,15 +24,17 @@ pub struct Store {
 
 impl Store {
     // Every stream set up. Whether all were taken is seen in the tally.
-    pub fn start() -> Store {
+    pub(crate) fn start() -> Store {
         let fresh = Store {
             node: Node::fresh(),
             tally: Tally::zero(),
             state: 0,
             wanted: false,
         };
-        let one = fresh.set_up(FILES, FILES_SETTINGS);
-        one.set_up(STATE, STATE_SETTINGS)
+        let files = Settings::of_two_message(Settings::RECEIVE, 6, 6, 7, 14);
+        let state = Settings::of_imd(Settings::SEND, 8, 8);
+        let one = fresh.set_up(FILES, files);
+        one.set_up(STATE, state)
     }
 
     fn set_up(self, stream: Stream, settings: Settings) -> Store {
@@ -61,7 +45,7 @@ impl Store {
     }
 
     // The store after a call: its node, and its reply counted.
-    pub fn after(self, node: Node, reply: Reply) -> Store {
+    pub(crate) fn after(self, node: Node, reply: Reply) -> Store {
         let tally = self.tally;
         Store {
             node,

@@ -12,7 +12,8 @@ use denote.Ref.{now}
 use denote.Triple.Clauses.{AtExit}
 use denote.Triple.Entry.{Args, Res}
 use Rattle.wire.specs.declared.reply.Reply.{Reply}
-use Rattle.wire.proofs.Unique.{OneAnswer, same}
+use Rattle.wire.specs.Uniqueness.{OneAnswer}
+use Rattle.wire.proofs.Unique.{same}
 use Rattle.node.specs.Calls.{Call, setUp, hear, tick, request, nextFrame}
 use Rattle.module.specs.declared.tally.Tally.{Tally}
 use Rattle.module.specs.Tallies.{tallied}

@@ -7,8 +7,8 @@ use Rattle.bytes.specs.Bytes.{indexOf, indexAfter, slice}
 use Rattle.text.specs.declared.input.Kind.the-variants.{Line, More, End}
 use Rattle.text.specs.Input.{stepOf}
 use Rattle.text.specs.Words.{wordAt, doneAt}
-use Rattle.text.specs.Decimal.{noNumber, numberOf, numberAt, decimalText}
-use Rattle.text.specs.Hex.{answer, isPayload, hexBytes, payloadOf}
+use Rattle.text.specs.Numbers.{noNumber, numberOf, numberAt, decimalText}
+use Rattle.text.specs.Payloads.{isPayload, payloadBytes, payloadOf}
 
 -- `a 12`
 line : List ℕ
@@ -45,21 +45,29 @@ no-sign : numberOf 99 (43 ∷ 55 ∷ []) ≡ noNumber
 unfolding numberOf
 no-sign = refl
 
--- `0a0b` is two bytes and `-` none; `0A` and `abc` are no payloads
-two-bytes : payloadOf (48 ∷ 97 ∷ 48 ∷ 98 ∷ []) ≡ answer true (10 ∷ 11 ∷ [])
-unfolding payloadOf isPayload hexBytes
+-- `0a0b` is two bytes and `-` none; `0A`, `abc` and bytes that there is no room for are no payloads
+two-bytes : payloadBytes 2 (48 ∷ 97 ∷ 48 ∷ 98 ∷ []) ≡ 10 ∷ 11 ∷ []
+unfolding payloadBytes
 two-bytes = refl
 
-no-bytes : payloadOf (45 ∷ []) ≡ answer true []
-unfolding payloadOf isPayload hexBytes
+two-in-two : payloadOf 2 (48 ∷ 97 ∷ 48 ∷ 98 ∷ []) ≡ record { ok = true; len = 2 }
+unfolding payloadOf isPayload payloadBytes
+two-in-two = refl
+
+two-in-one : payloadOf 1 (48 ∷ 97 ∷ 48 ∷ 98 ∷ []) ≡ record { ok = false; len = 0 }
+unfolding payloadOf isPayload payloadBytes
+two-in-one = refl
+
+no-bytes : payloadOf 0 (45 ∷ []) ≡ record { ok = true; len = 0 }
+unfolding payloadOf isPayload payloadBytes
 no-bytes = refl
 
-upper-case : payloadOf (48 ∷ 65 ∷ []) ≡ answer false []
-unfolding payloadOf isPayload hexBytes
+upper-case : payloadOf 2 (48 ∷ 65 ∷ []) ≡ record { ok = false; len = 0 }
+unfolding payloadOf isPayload payloadBytes
 upper-case = refl
 
-odd-digits : payloadOf (97 ∷ 98 ∷ 99 ∷ []) ≡ answer false []
-unfolding payloadOf isPayload hexBytes
+odd-digits : payloadOf 2 (97 ∷ 98 ∷ 99 ∷ []) ≡ record { ok = false; len = 0 }
+unfolding payloadOf isPayload payloadBytes
 odd-digits = refl
 
 -- a buffer that holds `a`, a newline and `b`: first the line `a`

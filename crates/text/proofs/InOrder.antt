@@ -116,3 +116,8 @@ module _ (s : List ℕ) (at : ℕ) (within : at ≤ length s) where
   -- there is no space in a word
   pub one-word : indexOf 32 (bytesAt s at) ≡ length (bytesAt s at)
   one-word = rw word (none-before 32 (drop at s))
+
+-- a word starts before the next one
+pub next-later : (s : List ℕ) (at : ℕ) → min at (length s) < wordAt s at .next
+unfolding wordAt
+next-later s at = omega arith

@@ -2,13 +2,13 @@
 use Prim.Native.Nat.{ℕ, _+_, _-_, _<_, _≤_, min}
 use native.Mathlib.Numerals.{add-one}
 use native.Mathlib.Omega.{arith}
-use mathlib.Core.Path.{_≡_, sym, ap, _∙_}
+use mathlib.Core.Path.{_≡_, refl, sym, ap, _∙_}
 use mathlib.Core.Bool.{Bool, true, false, cond, _||_}
 use mathlib.Core.List.{List, _++_}
-use lib.Dec.{ltb, eqb}
+use lib.Dec.{ltb, leb, eqb}
 use lib.ListN.{length, take, drop, getD, set, length-drop}
-use lib.Seq.{take-suc, take-suc-set, take-at, take-add, take-take, length-take-le, drop-at, drop-set-lt, drop-drop, getD-drop}
-use borrow.Author.Tests.{lt-ltb, le-ltb}
+use lib.Seq.{take-all, take-length, take-suc, take-suc-set, take-at, take-add, take-take, length-take-le, drop-at, drop-set-lt, drop-drop, getD-drop}
+use borrow.Author.Tests.{lt-ltb, le-ltb, leb-true, leb-false}
 use Rattle.bytes.specs.Bytes.{indexOf, slice}
 use Rattle.text.specs.Buffer.{size}
 use Rattle.text.specs.Input.{stopOf, startOf, endOf, kindOf, stepOf, keptOf, Refilled}
@@ -95,3 +95,35 @@ refilled old mid new i to from n came long pt pf pn small fits moved stays =
       next = rw (k, pf, pt);
       kept = rw (k, pf, pt) at u;
     }
+
+-- a count and a start that go past the end take nothing more than is there
+take-by : (n : ℕ) (s : List ℕ) (t : Bool) → leb n (length s) ≡ t → take (min n (length s)) s ≡ take n s
+take-by n s true e =
+    let l : n ≤ length s = leb-true _ _ e in
+    let m : min n (length s) ≡ n = omega arith in
+    rw m
+take-by n s false e =
+    let l : length s < n = leb-false _ _ e in
+    let m : min n (length s) ≡ length s = omega arith in
+    rw (m, take-length s, take-all n s (omega arith))
+
+pub take-least : (n : ℕ) (s : List ℕ) → take (min n (length s)) s ≡ take n s
+take-least n s = take-by n s (leb n (length s)) refl
+
+part-by : (s : List ℕ) (f t : ℕ) (a : Bool) → leb f (min t (length s)) ≡ a
+    → take (min t (length s) - min f (min t (length s))) (drop (min f (min t (length s))) s) ≡ take (t - f) (drop f s)
+part-by s f t true e =
+    let l : f ≤ min t (length s) = leb-true _ _ e in
+    let g : min f (min t (length s)) ≡ f = omega arith in
+    let n : min t (length s) - f ≡ min (t - f) (length (drop f s)) = simp length-drop (omega arith) in
+    rw (g, n) (take-least (t - f) (drop f s))
+part-by s f t false e =
+    let l : min t (length s) < f = leb-false _ _ e in
+    let g : min f (min t (length s)) ≡ min t (length s) = omega arith in
+    let z : min t (length s) - min t (length s) ≡ 0 = omega arith in
+    let n : min (t - f) (length (drop f s)) ≡ 0 = simp length-drop (omega arith) in
+    rw (g, z, ← take-least (t - f) (drop f s), n)
+
+-- a part that is cut to what is there has the same bytes
+pub part-cut : (s : List ℕ) (f t e g : ℕ) → e ≡ min t (length s) → g ≡ min f e → take (e - g) (drop g s) ≡ take (t - f) (drop f s)
+part-cut s f t e g p q = rw (q, p) (part-by s f t (leb f (min t (length s))) refl)

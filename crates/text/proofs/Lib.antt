@@ -3,7 +3,8 @@ pub mod OutputLaws
 pub mod WordLaws
 pub mod InOrder
 pub mod RoundTrip
+mod Unique
 mod InputLaws
-mod DecimalLaws
-mod HexLaws
+mod NumberLaws
+mod PayloadLaws
 mod Examples

@@ -3,10 +3,11 @@ use Prim.Native.Nat.{ℕ, _+_, _-_, _<_, _≤_}
 use native.Mathlib.Numerals.{add-one}
 use native.Mathlib.Omega.{arith}
 use mathlib.Core.Path.{_≡_, refl, sym, ap, _∙_}
+use borrow.Author.Tests.{le-leb, lt-leb}
 use mathlib.Core.List.{List, [], _∷_, _++_, append-nil, append-assoc}
 use lib.ListN.{length, take, drop, set, length-append, length-take, length-drop, take-append-drop, drop-of-length-le}
 use lib.Seq.{take-all, take-length, take-at, drop-append-add, drop-drop, set-split}
-use Rattle.text.specs.Output.{Wrote}
+use Rattle.text.specs.Output.{Put, Wrote, free, roomAt, pastText, withText}
 
 module _ {old text new : List ℕ} {at r : ℕ} (w : Wrote old at text new r) where
   written : length (take at old ++ text) ≡ r
@@ -61,3 +62,14 @@ copied old s back at room e =
           (rw (drop-of-length-le (drop at old) {i = length old - at} (omega arith), drop-drop (length s) at old)
           (ap (λ (l : List ℕ). take at old ++ l) (append-nil (s ++ drop (at + length s) old))));
     }
+
+-- a text that was written where room was made for it is put
+pub put-there : {old text new : List ℕ} {at start r : ℕ} → start ≡ roomAt at → length text ≤ free → Wrote old start text new r → Put old at text new r
+unfolding pastText withText
+put-there {old} {text} {new} {at} {start} {r} e h w =
+    record { past = w .past ∙ rw (le-leb _ _ h, e); whole = w .whole ∙ rw (w .past, le-leb _ _ h, e) }
+
+-- a longer one is put where the buffer was printed and stays as it is
+pub put-past : {old text : List ℕ} {at r : ℕ} → free < length text → r ≡ 0 → Put old at text old r
+unfolding pastText withText
+put-past h e = record { past = e ∙ rw (lt-leb _ _ h); whole = rw (lt-leb _ _ h) }

@@ -3,14 +3,15 @@ use Prim.Native.Nat.{ℕ, zero, suc, _^_, _+_, _*_, _/_, _%_, _<_, _≤_}
 use native.Mathlib.Nat.{pow-suc}
 use native.Mathlib.Omega.{arith}
 use mathlib.Core.Path.{_≡_, refl, sym, _∙_}
-use mathlib.Core.Bool.{Bool, true, false, cond, _&&_, and-assoc}
+use mathlib.Core.Bool.{Bool, true, false, cond, _&&_, _||_, and-assoc}
 use mathlib.Core.List.{List, [], _∷_, _++_}
 use lib.Dec.{ltb, leb}
 use lib.ListN.{length, getD, length-append}
 use borrow.Author.Tests.{lt-ltb, le-ltb, le-leb, lt-leb, ne-eqb, ltb-true, ltb-false}
 use Rattle.io.specs.Digits.{glyph}
-use Rattle.text.specs.Decimal.{digitOf, allDigits, valueOf, numberOf, digitsOf, decimalText}
-use Rattle.text.specs.Hex.{largest, nibbleOf, byteOf, allPairs, fromHex, isPayload, hexBytes, answer, payloadOf, toHex, hexText}
+use Rattle.text.specs.Numbers.{digitOf, allDigits, valueOf, numberOf, digitsOf, decimalText}
+use Rattle.text.proofs.PayloadLaws.{hex-length}
+use Rattle.text.specs.Payloads.{nibbleOf, byteOf, allPairs, fromHex, isDash, isHex, isPayload, payloadBytes, toHex, hexText}
 
 digit-back : (d : ℕ) → d < 10 → digitOf (glyph d) ≡ d
 digit-back d h =
@@ -79,10 +80,6 @@ byte-back b h =
     rw (nibble-back (b / 16) (omega arith), nibble-back (b % 16) (omega arith))
     (rw (le-ltb 15 (b / 16) (omega arith), le-ltb 15 (b % 16) (omega arith)) (omega arith))
 
-hex-length : (s : List ℕ) → length (toHex s) ≡ 2 * length s
-hex-length [] = refl
-hex-length (b ∷ s) = omega (arith, hex-length s)
-
 pairs-back : (s : List ℕ) → ((i : ℕ) → getD s i 0 < 256) → (allPairs (toHex s) ≡ true) × (fromHex (toHex s) ≡ s)
 pairs-back [] h = (refl, refl)
 pairs-back (b ∷ s) h =
@@ -90,16 +87,22 @@ pairs-back (b ∷ s) h =
     let r = pairs-back s (λ i. h (suc i)) in
     (rw (e, le-leb b 255 (omega (arith, h 0)), r .0), rw (e, r .1))
 
-pairs-say : (t s : List ℕ) → 1 < length t → length t ≤ 2 * largest → allPairs t ≡ true → fromHex t ≡ s → payloadOf t ≡ answer true s
-unfolding payloadOf isPayload hexBytes
-pairs-say t s n m good back =
-    rw (ne-eqb (length t) 1 (λ e. omega arith), lt-ltb 0 (length t) (omega arith), le-leb (length t) (2 * largest) m, good, back)
+either : (a : Bool) → (a || true) ≡ true
+either true = refl
+either false = refl
 
--- reading the hex text of up to 64 bytes gives the bytes
-pub hex-back : (s : List ℕ) → ((i : ℕ) → getD s i 0 < 256) → length s ≤ largest → payloadOf (hexText s) ≡ answer true s
-unfolding payloadOf isPayload hexBytes
-hex-back [] h m = refl
-hex-back (b ∷ s) h m =
+dash-none : (a : Bool) → cond (a && false) (fromHex (45 ∷ [])) [] ≡ []
+dash-none true = refl
+dash-none false = refl
+
+-- reading the hex text of no more bytes than there is room for gives the bytes
+pub hex-back : (most : ℕ) (s : List ℕ) → ((i : ℕ) → getD s i 0 < 256) → length s ≤ most
+    → (isPayload most (hexText s) ≡ true) × (payloadBytes most (hexText s) ≡ s)
+unfolding isPayload payloadBytes
+hex-back most [] h m = (refl, dash-none (leb 1 (2 * most)))
+hex-back most (b ∷ s) h m =
     let r = pairs-back (b ∷ s) h in
     let n = hex-length (b ∷ s) in
-    pairs-say (toHex (b ∷ s)) (b ∷ s) (omega arith) (omega arith) (r .0) (r .1)
+    let t = toHex (b ∷ s) in
+    let x : isHex most t ≡ true = rw (lt-ltb 0 (length t) (omega arith), le-leb (length t) (2 * most) (omega arith), r .0) in
+    (rw x (either (isDash t)), rw x (r .1))

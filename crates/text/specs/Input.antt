@@ -98,3 +98,10 @@ Advanced Line old i new r = (r ≡ i) × (new ≡ old)
 Advanced Long old i new r = (r ≡ i) × (new ≡ old)
 Advanced More old i new r = Refilled old i new r
 Advanced End old i new r = (r ≡ i) × (new ≡ old)
+
+-- the index in the output to go on at: all is printed before a read and at the end
+abbrev pub printedTo : Kind → ℕ → ℕ
+printedTo Line to = to
+printedTo Long to = to
+printedTo More to = 0
+printedTo End to = 0

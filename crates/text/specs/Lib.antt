@@ -1,6 +1,7 @@
 pub mod Buffer
 pub mod Input
 pub mod Words
-pub mod Decimal
-pub mod Hex
+pub mod Numbers
+pub mod Payloads
 pub mod Output
+pub mod Unique

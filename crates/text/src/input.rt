@@ -3,16 +3,18 @@
 // The unread bytes are buffer[from..to]. A line of up to 65,535 bytes is handed out where it
 // stands. A longer one is dropped as it comes, and answered once, as `Long`, where it ends.
 //
-// A program goes round: `next` says what is at hand, and `advance` goes on from there.
+// A program goes round: `next` says what is at hand, `line` has its bytes, and `advance` goes on from there.
 use crate::Buffer;
 use crate::SIZE;
 use crate::least;
+use crate::output;
+use crate::part;
 ghost use Prim.Native.Nat.{_+_, _-_, _≤_};
 ghost use mathlib.Core.Bool.{cond};
 ghost use mathlib.Core.Path.{_≡_};
 ghost use lib.ListN.{length, take, drop};
 ghost use Rattle.text.specs.Buffer.{size};
-ghost use Rattle.text.specs.Input.{fresh, stepOf, kindOf, isEnd, Refilled, Advanced};
+ghost use Rattle.text.specs.Input.{fresh, stepOf, kindOf, isEnd, lineIn, printedTo, Refilled, Advanced};
 
 pub struct Input {
     pub from: usize,
@@ -132,18 +134,41 @@ pub fn is_end(step: Step) -> bool
     }
 }
 
-// Goes on from a step, with one read where the step asks for more. That read may wait, so a program
-// that somebody talks to flushes first.
-pub fn advance(step: Step, buf: &mut Buffer) -> Input
-    ensures { λ r. ⌜ Advanced (step .kind) (now (buf .entry)) (step .input) (now (buf .exit)) r ⌝ }
+// The bytes that a step hands out.
+pub fn line(step: Step, buf: &Buffer) -> &[u8]
+    ensures { λ r. ⌜ now r ≡ lineIn (now (buf .entry)) step ⌝ }
+{
+    part(buf, step.start, step.end)
+}
+
+// What to go on from, and the index in the output to go on at.
+pub struct On {
+    pub input: Input,
+    pub to: usize,
+}
+
+// Goes on from a step. Where it asks for more, what was answered up to index to is printed, and then one read is made, which may
+// wait; at the end what was answered is printed.
+pub fn advance(step: Step, buf: &mut Buffer, out: &Buffer, to: usize) -> On
+    ensures { λ r. ⌜ Advanced (step .kind) (now (buf .entry)) (step .input) (now (buf .exit)) (r .input) ⌝ }
+    ensures { λ r. ⌜ r .to ≡ printedTo (step .kind) to ⌝ }
 {
     let kind = step.kind;
     let rest = step.input;
     match kind {
-        Kind::Line => rest,
-        Kind::Long => rest,
-        Kind::More => refill(rest, buf),
-        Kind::End => rest,
+        Kind::Line => On { input: rest, to },
+        Kind::Long => On { input: rest, to },
+        Kind::More => {
+            let start = output::flush(out, to);
+            On {
+                input: refill(rest, buf),
+                to: start,
+            }
+        }
+        Kind::End => On {
+            input: rest,
+            to: output::flush(out, to),
+        },
     }
 }
 

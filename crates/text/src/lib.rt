@@ -1,13 +1,16 @@
 // Text for a program that goes by lines: the lines of standard input, the words of a line with the
 // numbers and payloads that they say, and what the program prints.
 //
-// Only `input::advance`, `output::flush` and `output::room` reach out of the program. Every other
-// function is a function of its arguments, and its contract says all that it answers and writes.
+// Only `input::advance` reads and only `input::advance` and `output` print, which no contract can speak of. Of all else a
+// function's contract says everything that it answers and writes.
 pub mod input;
+pub mod numbers;
 pub mod output;
+pub mod payloads;
 pub mod words;
 
-ghost use Prim.Native.Nat.{min};
+ghost use Prim.Native.Nat.{_-_, min};
+ghost use lib.ListN.{take, drop};
 ghost use mathlib.Core.Path.{_≡_};
 
 // How many bytes the buffers have that a program lends, one for its input and one for its output.
@@ -15,8 +18,24 @@ pub const SIZE: usize = 65536;
 
 pub type Buffer = [u8; SIZE];
 
-fn least(a: usize, b: usize) -> usize
+// The smaller of two numbers.
+pub fn least(a: usize, b: usize) -> usize
     ensures { λ r. ⌜ r ≡ min a b ⌝ }
 {
     if a < b { a } else { b }
+}
+
+// The bytes from one index up to another, or as many of them as there are.
+pub fn part(s: &[u8], from: usize, to: usize) -> &[u8]
+    ensures { λ r. ⌜ now r ≡ take (to - from) (drop from (now (s .entry))) ⌝ }
+{
+    let end = least(to, s.len());
+    let start = least(from, end);
+    &s[start..end]
+}
+
+fn wide(x: u8) -> u64
+    ensures { λ r. ⌜ r ≡ x ⌝ }
+{
+    x as u64
 }

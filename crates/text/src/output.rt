@@ -1,23 +1,24 @@
-// Printing, into a buffer that the caller lends.
+// Printing, through a buffer that the caller lends.
 //
-// Each put writes at an index and answers the index past what it wrote, and none of them flushes.
-// `room` does where the buffer is nearly full, so a program calls it before each line and, in a long
-// line, before each part. `flush` is for the end and for what comes before a read.
+// Each put writes behind what the buffer holds up to index at, and answers the index past what it wrote. Where too little is
+// free the buffer is printed first, and a text that is longer than what is kept free is printed at once: a caller never has to
+// ask for room. `flush` is for the end and for what comes before a read.
 use crate::Buffer;
 use crate::SIZE;
 use crate::least;
+use crate::wide;
 ghost use Prim.Native.Nat.{_+_, _*_, _≤_, _<_};
 ghost use mathlib.Core.Path.{_≡_};
 ghost use mathlib.Core.List.{[], _∷_};
 ghost use lib.ListN.{length};
 ghost use Rattle.io.specs.Digits.{glyph as Digits·glyph};
 ghost use Rattle.text.specs.Buffer.{size};
-ghost use Rattle.text.specs.Output.{Wrote, free, roomAt};
-ghost use Rattle.text.specs.Decimal.{decimalText};
-ghost use Rattle.text.specs.Hex.{hexText};
+ghost use Rattle.text.specs.Output.{Put, Wrote, free, roomAt, pastText, withText};
+ghost use Rattle.text.specs.Numbers.{decimalText};
+ghost use Rattle.text.specs.Payloads.{hexText};
 
-// How many bytes `room` keeps free: a payload of 1,024 bytes in hex, twice over.
-pub const FREE: usize = 4096;
+// How many bytes are kept free: 2,048 bytes in hex.
+const FREE: usize = 4096;
 
 // Prints what is in the buffer up to index at, and answers 0, the index to go on at. What cannot be
 // printed is lost.
@@ -29,10 +30,63 @@ pub fn flush(out: &[u8], at: usize) -> usize
     0
 }
 
-// Flushes where fewer than 4,096 bytes are free past index at, and answers the index to go on at.
-pub fn room(out: &Buffer, at: usize) -> usize
-    ensures { λ r. ⌜ r ≡ roomAt at ⌝ }
-    ensures { λ r. ⌜ r + free ≤ size ⌝ }
+// Puts the bytes of text.
+pub fn put(out: &mut Buffer, at: usize, text: &[u8]) -> usize
+    ensures { λ r. ⌜ Put (now (out .entry)) at (now (text .entry)) (now (out .exit)) r ⌝ }
+{
+    if text.len() <= FREE {
+        let start = room(out, at);
+        return place(out, start, text);
+    }
+    let start = flush(out, at);
+    io::write_all(1, text);
+    start
+}
+
+// Puts one byte.
+pub fn put_byte(out: &mut Buffer, at: usize, b: u8) -> usize
+    ensures { λ r. ⌜ Put (now (out .entry)) at (b ∷ []) (now (out .exit)) r ⌝ }
+{
+    let start = room(out, at);
+    place_byte(out, start, b)
+}
+
+// Puts n in decimal.
+pub fn put_decimal(out: &mut Buffer, at: usize, n: u64) -> usize
+    ensures { λ r. ⌜ Put (now (out .entry)) at (decimalText n) (now (out .exit)) r ⌝ }
+{
+    let mut digits = [0u8; 20];
+    let k = io::decimal(n, &mut digits);
+    put(out, at, &digits[..k])
+}
+
+// Puts n in decimal, and then one byte.
+pub fn put_parted(out: &mut Buffer, at: usize, n: u64, b: u8) -> usize
+    ensures { λ r. ⌜ Put (withText (now (out .entry)) at (decimalText n)) (pastText at (decimalText n)) (b ∷ []) (now (out .exit)) r ⌝ }
+{
+    let past = put_decimal(out, at, n);
+    put_byte(out, past, b)
+}
+
+// Puts two hex digits for each byte of s, and `-` where there is none.
+pub fn put_hex(out: &mut Buffer, at: usize, s: &[u8]) -> usize
+    ensures { λ r. ⌜ Put (now (out .entry)) at (hexText (now (s .entry))) (now (out .exit)) r ⌝ }
+{
+    if s.len() == 0 {
+        return put_byte(out, at, b'-');
+    }
+    if s.len() <= FREE / 2 {
+        let start = room(out, at);
+        return place_hex(out, start, s);
+    }
+    let start = flush(out, at);
+    print_hex(s);
+    start
+}
+
+// Flushes where fewer than FREE bytes are free past index at, and answers the index to go on at.
+fn room(out: &Buffer, at: usize) -> usize
+    ensures { λ r. ⌜ (r ≡ roomAt at) × (r + free ≤ size) ⌝ }
 {
     if at <= SIZE - FREE {
         at
@@ -41,8 +95,7 @@ pub fn room(out: &Buffer, at: usize) -> usize
     }
 }
 
-// Writes the bytes of text.
-pub fn put(out: &mut [u8], at: usize, text: &[u8]) -> usize
+fn place(out: &mut [u8], at: usize, text: &[u8]) -> usize
     requires { ⌜ at + length (now text) ≤ length (now out) ⌝ }
     ensures { λ r. ⌜ Wrote (now (out .entry)) at (now (text .entry)) (now (out .exit)) r ⌝ }
 {
@@ -50,8 +103,7 @@ pub fn put(out: &mut [u8], at: usize, text: &[u8]) -> usize
     at + text.len()
 }
 
-// Writes one byte.
-pub fn put_byte(out: &mut [u8], at: usize, b: u8) -> usize
+fn place_byte(out: &mut [u8], at: usize, b: u8) -> usize
     requires { ⌜ at < length (now out) ⌝ }
     ensures { λ r. ⌜ Wrote (now (out .entry)) at (b ∷ []) (now (out .exit)) r ⌝ }
 {
@@ -59,26 +111,10 @@ pub fn put_byte(out: &mut [u8], at: usize, b: u8) -> usize
     at + 1
 }
 
-// Writes n in decimal, which takes at most 20 digits.
-pub fn put_decimal(out: &mut [u8], at: usize, n: u64) -> usize
-    requires { ⌜ at + 20 ≤ length (now out) ⌝ }
-    ensures { λ r. ⌜ Wrote (now (out .entry)) at (decimalText n) (now (out .exit)) r ⌝ }
-    ensures { λ r. ⌜ r ≤ at + 20 ⌝ }
-{
-    let mut digits = [0u8; 20];
-    let k = io::decimal(n, &mut digits);
-    put(out, at, &digits[..k])
-}
-
-// Writes two hex digits for each byte of s, and `-` where there is none.
-pub fn put_hex(out: &mut [u8], at: usize, s: &[u8]) -> usize
-    requires { ⌜ at + 2 * length (now s) < length (now out) ⌝ }
+fn place_hex(out: &mut [u8], at: usize, s: &[u8]) -> usize
+    requires { ⌜ (0 < length (now s)) × (at + 2 * length (now s) ≤ length (now out)) ⌝ }
     ensures { λ r. ⌜ Wrote (now (out .entry)) at (hexText (now (s .entry))) (now (out .exit)) r ⌝ }
-    ensures { λ r. ⌜ r ≤ at + 2 * length (now (s .entry)) + 1 ⌝ }
 {
-    if s.len() == 0 {
-        return put_byte(out, at, b'-');
-    }
     let mut to = at;
     let mut i = 0;
     while i < s.len() {
@@ -89,6 +125,14 @@ pub fn put_hex(out: &mut [u8], at: usize, s: &[u8]) -> usize
         i += 1;
     }
     to
+}
+
+fn print_hex(s: &[u8]) {
+    let mut i = 0;
+    while i < s.len() {
+        io::print_hex(1, wide(s[i]), 2);
+        i += 1;
+    }
 }
 
 // The hex digit, in lower case, that says d.

@@ -1,5 +1,5 @@
 -- What is known of a stream from an accepted request on, and that every event keeps it: the newest book, its strand with the
--- one-stream invariant, the sender's slot, and that nothing of older messages may be sent.
+-- one-stream invariant, the sender's slot, what pending frames of code 2 carry, and that nothing of older messages may be sent.
 use Prim.Native.Nat.{ℕ, suc, _+_, _-_, _≤_}
 use native.Mathlib.Omega.{arith}
 use mathlib.Core.Path.{_≡_, refl, ap, sym, subst, _∙_}
@@ -14,7 +14,7 @@ use Rattle.wire.specs.declared.settings.Settings.{Settings}
 use Rattle.node.specs.declared.slots.Slot.{Slot}
 use Rattle.wire.specs.Frames.{maxPayload}
 use Rattle.wire.specs.Identifiers.{idOf}
-use Rattle.wire.specs.Settings.{receives, isPlain, legal}
+use Rattle.wire.specs.Settings.{receives, isPlain}
 use Rattle.node.specs.Clock.{unbounded}
 use Rattle.node.specs.Nodes.{slotOf}
 use Rattle.node.specs.Reachable.{Kept}
@@ -27,7 +27,6 @@ use Rattle.one_stream.proofs.Truth.{cond-elim, cond-false, and-l, and-r, both, 
 use Rattle.bench.specs.Bench.{Module, Bench, Book, Frame, Sendings, never, sent, pendingSince, noBook, moduleAt, isLive, slotAt, now}
 use Rattle.bench.specs.Bench.{bookOf, booksOf, frameOf, ownerOf, settingsOf, Which, thePayload, theConfirmation, theAbort, Moment}
 use Rattle.bench.specs.Events.{Event, sends, ticks, dies, step, ticked, named, isFull, To, sentOnce, onFrame, onNewest, becamePending}
-use Rattle.bench.specs.Events.{moved}
 use Rattle.bench.specs.Lists.{nth, at}
 use Rattle.bench.specs.Rules.{may, rule1, rule3, inTurn, inReach, within, wasFull}
 use Rattle.bench.proofs.laws.SlotAfterCall.{tick-slot}

@@ -25,8 +25,7 @@ use Rattle.node.specs.Slots.{isReceiver, isSender, isFree, isOf, empty, first, 
 use Rattle.node.proofs.Choices.{neither}
 use Rattle.node.proofs.kept.EveryCall.{kept}
 use Rattle.one_stream.proofs.Truth.{cond-elim, and-l, and-r, both, or-l, or-r, decide, is-true, is-false, so}
-use Rattle.bench.specs.Bench.{Bench, Ledger, noBook, noModule, moduleAt, slotAt, booksIn, booksOf, frameOf, sameStream, sent}
-use Rattle.bench.specs.Events.{only}
+use Rattle.bench.specs.Bench.{Bench, Ledger, noBook, noModule, moduleAt, slotAt, booksIn, booksOf, frameOf, sameStream}
 use Rattle.bench.specs.Lists.{nth, every}
 use Rattle.bench.specs.SetUp.{Entry, Part, Plan, setUps, sameNumbers, agree, partsAgree, allAgree, allEntries, accepted, isSent}
 use Rattle.bench.specs.SetUp.{proper, withLedger, ledgersFor, moduleFor, start}

@@ -1,4 +1,4 @@
--- The strand of a stream follows the bench: a tick, a sending of its newest message, giving out.
+-- A stream of a bench as a strand of the one-stream proof, and that the strand follows the bench: at a tick, and at a sending of its newest message.
 use Prim.Native.Nat.{ℕ, zero, suc, _+_, _-_, _≤_}
 use native.Mathlib.Omega.{arith}
 use mathlib.Core.Path.{_≡_, refl, ap, sym, subst, _∙_, fun-ext}

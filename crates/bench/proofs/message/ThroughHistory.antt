@@ -10,7 +10,6 @@ use Rattle.node.specs.declared.slots.Slot.{Slot}
 use Rattle.node.specs.declared.Node.{Node}
 use Rattle.wire.specs.Identifiers.{codeOf}
 use Rattle.node.specs.Nodes.{slotOf}
-use Rattle.node.specs.Request.{requested}
 use Rattle.node.specs.Slots.{isReceiver, isSender}
 use Rattle.node.specs.Tick.{late, due, holdOver, lapsed}
 use Rattle.node.proofs.Choices.{either-way}

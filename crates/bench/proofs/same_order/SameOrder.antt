@@ -31,12 +31,13 @@ use Rattle.bench.proofs.message.SendingsSeen.{toSent, full-was}
 use Rattle.bench.proofs.message.ClassOnBench.{toDelays}
 use Rattle.bench.proofs.message.ModuleSeen.{toNote, notes}
 use Rattle.bench.proofs.message.SeenAfterOwnEvent.{valid-step}
+use Rattle.bench.proofs.message.NewestData.{dataOf}
 use Rattle.bench.proofs.message.RequestOpens.{logsOf}
 use Rattle.bench.proofs.message.AcceptedRequest.{Requested}
 use Rattle.bench.proofs.message.MessageOfHistory.{its-request}
 use Rattle.bench.proofs.two_message.TwoMessageOnBench.{fits, two-message}
 use Rattle.bench.proofs.same_order.LogOrder.{Earlier, receivesPlain, timedAt, in-order, log-order, earlier-before}
-use Rattle.bench.proofs.same_order.DeliveryTicks.{dataOf, Told, not-yet, told, Timed, timed-run}
+use Rattle.bench.proofs.same_order.DeliveryTicks.{Told, not-yet, told, Timed, timed-run}
 use Rattle.one_stream.specs.Sendings as OS
 use Rattle.one_stream.specs.Classes as OC
 

@@ -1,4 +1,4 @@
--- `calls::lent::is_clean` is safe and ends: the measure is what is left of the output. Assumes nothing.
+-- `calls::lent::is_clean` is safe and ends: the measure is what is left of the output.
 use Prim.Native.Nat.{_-_}
 use lib.ListN.{length}
 use borrow.Author.Needs.{needs}
@@ -11,33 +11,7 @@ Inv-loop lent from clean₀ i₀ clean i = Unit {0}
 abbrev μ-loop : tie.MeasureT-loop
 μ-loop lent from clean₀ i₀ clean i = length lent - i
 
-loop-holds : tie.Need-loop-holds Inv-loop μ-loop
-loop-holds c = search needs
-
-shared-slice-read-clean : tie.Need-shared-slice-read-clean Inv-loop μ-loop
-shared-slice-read-clean c = search needs
-
-add-i : tie.Need-add-i Inv-loop μ-loop
-add-i c = search needs
-
-loop-less : tie.Need-loop-less Inv-loop μ-loop
-loop-less c = search needs
-
-loop-again : tie.Need-loop-again Inv-loop μ-loop
-loop-again c = search needs
-
-returns : tie.Need-returns Inv-loop μ-loop
-returns c = search needs
-
 pub is-clean-spec : {M : Type 1} → statement M
 is-clean-spec =
     tie.close
-    (tie.spec
-    Inv-loop
-    μ-loop
-    loop-holds
-    shared-slice-read-clean
-    add-i
-    loop-less
-    loop-again
-    returns)
+    (tie.spec Inv-loop μ-loop (λ c. search needs) (λ c. search needs) (λ c. search needs) (λ c. search needs) (λ c. search needs) (λ c. search needs))

@@ -1,4 +1,4 @@
--- `calls::lines::many` is safe and ends: at most n ticks were made, and the measure is how many are left. Assumes nothing.
+-- `calls::lines::many` is safe and ends: at most n ticks were made, and the measure is how many are left.
 use Prim.Native.Nat.{_≤_, _-_}
 use borrow.Author.Needs.{needs}
 use Rattle.calls.proofs.lines.many.Statement.{statement}
@@ -10,24 +10,8 @@ Inv-loop n out₀ to answer₀ k₀ out answer k = k ≤ n
 abbrev μ-loop : tie.MeasureT-loop
 μ-loop n out₀ to answer₀ k₀ out answer k = n - k
 
-loop-holds : tie.Need-loop-holds Inv-loop μ-loop
-loop-holds c = search needs
-
-add-k : tie.Need-add-k Inv-loop μ-loop
-add-k c = search needs
-
-one-requires : tie.Need-one-requires Inv-loop μ-loop
-one-requires c κs = search needs
-
-loop-less : tie.Need-loop-less Inv-loop μ-loop
-loop-less c = search needs
-
-loop-again : tie.Need-loop-again Inv-loop μ-loop
-loop-again c = search needs
-
-returns : tie.Need-returns Inv-loop μ-loop
-returns c = search needs
-
 pub many-spec : {M : Type 1} → statement M
 many-spec =
-    tie.close (tie.spec Inv-loop μ-loop loop-holds add-k one-requires loop-less loop-again returns)
+    tie.close
+    (tie.spec Inv-loop μ-loop (λ c. search needs) (λ c. search needs) (λ c κs. search needs) (λ c. search needs) (λ c. search needs)
+    (λ c. search needs))

@@ -1,79 +1,42 @@
--- `main_loop::records::deliver` is safe and ends: the measure is how much of the output is left. Assumes nothing.
-use Prim.Native.Nat.{_≤_, _-_}
+-- `main_loop::records::deliver` is safe and ends: a record ends within the output and past its start, and the measure is what is left of the output.
+use Prim.Native.Nat.{_-_}
+use native.Mathlib.Omega.{arith}
 use lib.ListN.{length}
 use borrow.Author.Needs.{needs}
+use borrow.Author.Tests.{not-false}
+use Rattle.wire.proofs.Reading.{within}
 use Rattle.main_loop.proofs.records.deliver.Statement.{statement}
 use Rattle.main_loop.proofs.records.deliver.Tie as tie
 
 abbrev Inv-loop : tie.InvT-loop
-Inv-loop out written end at₀ at = (at ≤ end) × (end ≤ length out)
+Inv-loop out written end at₀ at = Unit {0}
 
 abbrev μ-loop : tie.MeasureT-loop
-μ-loop out written end at₀ at = end - at
-
-least-requires : tie.Need-least-requires Inv-loop μ-loop
-least-requires c κs = search needs
-
-loop-holds : tie.Need-loop-holds Inv-loop μ-loop
-loop-holds c = search needs
-
-sub-loop : tie.Need-sub-loop Inv-loop μ-loop
-sub-loop c = search needs
-
-add-least : tie.Need-add-least Inv-loop μ-loop
-add-least c = search needs
-
-shared-slice-read-wide : tie.Need-shared-slice-read-wide Inv-loop μ-loop
-shared-slice-read-wide c = search needs
-
-wide-requires : tie.Need-wide-requires Inv-loop μ-loop
-wide-requires c κs = search needs
-
-add-least-2 : tie.Need-add-least-2 Inv-loop μ-loop
-add-least-2 c = search needs
-
-least-requires-2 : tie.Need-least-requires-2 Inv-loop μ-loop
-least-requires-2 c κs = search needs
+μ-loop out written end at₀ at = length out - at
 
 sub-delivered : tie.Need-sub-delivered Inv-loop μ-loop
-sub-delivered c = search needs
+sub-delivered c =
+    let w = within _ _ _ (c .before .before .record-at .ensures) (not-false _ (c .if1 .left)) in
+    omega arith
 
 part-delivered-start : tie.Need-part-delivered-start Inv-loop μ-loop
-part-delivered-start c = search needs
+part-delivered-start c =
+    let w = within _ _ _ (c .before .before .record-at .ensures) (not-false _ (c .if1 .left)) in
+    omega arith
 
 part-delivered-end : tie.Need-part-delivered-end Inv-loop μ-loop
-part-delivered-end c = search needs
-
-delivered-requires : tie.Need-delivered-requires Inv-loop μ-loop
-delivered-requires c κs = search needs
+part-delivered-end c =
+    let w = within _ _ _ (c .before .before .record-at .ensures) (not-false _ (c .if1 .left)) in
+    omega arith
 
 loop-less : tie.Need-loop-less Inv-loop μ-loop
-loop-less c = search needs
-
-loop-again : tie.Need-loop-again Inv-loop μ-loop
-loop-again c = search needs
-
-returns : tie.Need-returns Inv-loop μ-loop
-returns c = search needs
+loop-less c =
+    let i = c .before .before in
+    let w = within _ _ _ (i .before .before .record-at .ensures) (not-false _ (i .if1 .left)) in
+    omega arith
 
 pub deliver-spec : {M : Type 1} → statement M
 deliver-spec =
     tie.close
-    (tie.spec
-    Inv-loop
-    μ-loop
-    least-requires
-    loop-holds
-    sub-loop
-    add-least
-    shared-slice-read-wide
-    wide-requires
-    add-least-2
-    least-requires-2
-    sub-delivered
-    part-delivered-start
-    part-delivered-end
-    delivered-requires
-    loop-less
-    loop-again
-    returns)
+    (tie.spec Inv-loop μ-loop (λ c κs. search needs) (λ c. search needs) (λ c κs. search needs) (λ c. search needs) sub-delivered
+    part-delivered-start part-delivered-end (λ c κs. search needs) loop-less (λ c. search needs) (λ c. search needs))

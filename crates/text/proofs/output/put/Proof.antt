@@ -1,33 +1,28 @@
 -- `text::output::put` meets its contract.
-use Rattle.text.proofs.OutputLaws.{copied}
 use borrow.Author.Needs.{needs}
+use Rattle.text.proofs.OutputLaws.{put-there, put-past}
 use Rattle.text.proofs.output.put.Statement.{statement}
 use Rattle.text.proofs.output.put.Tie as tie
 
-sub-copy : tie.Need-sub-copy
-sub-copy c = search needs
+room-requires : tie.Need-room-requires
+room-requires c κs = search needs
 
-part-copy-start : tie.Need-part-copy-start
-part-copy-start c = search needs
-
-part-copy-end : tie.Need-part-copy-end
-part-copy-end c = search needs
-
-copy-requires : tie.Need-copy-requires
-copy-requires c κs = search needs
-
-add-result : tie.Need-add-result
-add-result c = search needs
-
-same-length : tie.Need-same-length
-same-length c = search needs
+place-requires : tie.Need-place-requires
+place-requires c κs = search needs
 
 returns : tie.Need-returns
-returns c =
-    let s = c .before .before .before .before .before .before in
-    copied (s .args .out .now) (s .args .text .now) _ (s .args .at) (s .pre) (c .before .before .copy .ensures .1)
+returns c = put-there (c .before .before .room .ensures .0) (c .before .before .before .before .if1 .taken) (c .place .ensures)
+
+flush-requires : tie.Need-flush-requires
+flush-requires c κs = search needs
+
+write-all-requires : tie.Need-write-all-requires
+write-all-requires c κs = search needs
+
+returns-2 : tie.Need-returns-2
+returns-2 c = put-past (c .before .before .before .before .if1 .left) (c .before .flush .ensures)
 
 pub put-spec : {M : Type 1} → statement M
 put-spec =
     tie.close
-    (tie.spec sub-copy part-copy-start part-copy-end copy-requires add-result same-length returns)
+    (tie.spec room-requires place-requires returns flush-requires write-all-requires returns-2)

@@ -1,20 +1,18 @@
 -- `text::output::put_byte` meets its contract.
-use Rattle.text.proofs.OutputLaws.{stored}
 use borrow.Author.Needs.{needs}
+use native.Mathlib.Omega.{arith}
+use Rattle.text.proofs.OutputLaws.{put-there}
 use Rattle.text.proofs.output.put_byte.Statement.{statement}
 use Rattle.text.proofs.output.put_byte.Tie as tie
 
-slice-write-out : tie.Need-slice-write-out
-slice-write-out c = search needs
+room-requires : tie.Need-room-requires
+room-requires c κs = search needs
 
-add-result : tie.Need-add-result
-add-result c = search needs
-
-same-length : tie.Need-same-length
-same-length c = search needs
+place-byte-requires : tie.Need-place-byte-requires
+place-byte-requires c κs = search needs
 
 returns : tie.Need-returns
-returns c = stored _ _ _ (search needs)
+returns c = put-there (c .before .before .room .ensures .0) (omega arith) (c .place-byte .ensures)
 
 pub put-byte-spec : {M : Type 1} → statement M
-put-byte-spec = tie.close (tie.spec slice-write-out add-result same-length returns)
+put-byte-spec = tie.close (tie.spec room-requires place-byte-requires returns)

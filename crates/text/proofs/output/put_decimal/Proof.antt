@@ -1,6 +1,5 @@
 -- `text::output::put_decimal` meets its contract.
-use native.Mathlib.Omega.{arith}
-use Rattle.text.proofs.DecimalLaws.{twenty-digits, digits-are-text}
+use Rattle.text.proofs.NumberLaws.{digits-are-text}
 use borrow.Author.Needs.{needs}
 use Rattle.text.proofs.output.put_decimal.Statement.{statement}
 use Rattle.text.proofs.output.put_decimal.Tie as tie
@@ -15,30 +14,15 @@ slice-aggregate-put : tie.Need-slice-aggregate-put
 slice-aggregate-put c = search needs
 
 put-requires : tie.Need-put-requires
-put-requires c κs =
-    let d = c .before .before .decimal in
-    let s = c .before .before .before .before .before in
-    omega (arith, twenty-digits (s .args .n) (d .result) (s .fits .n .fits) (d .ensures .1 .0), d .ensures .0 .1, s .pre)
-
-same-length : tie.Need-same-length
-same-length c = search needs
+put-requires c κs = search needs
 
 returns : tie.Need-returns
 returns c =
-    let d = c .before .before .before .before .before .decimal in
-    let s = c .before .before .before .before .before .before .before .before in
-    let p = c .before .before .put .ensures in (
-      rw (d .ensures .1 .1, digits-are-text (s .args .n) (d .result) (s .fits .n .fits) (d .ensures .1 .0)) at p,
-      omega (arith, twenty-digits (s .args .n) (d .result) (s .fits .n .fits) (d .ensures .1 .0), d .ensures .0 .1, p .past),
-    )
+    let d = c .before .before .before .decimal in
+    let s = c .before .before .before .before .before in
+    rw (d .ensures .1 .1, digits-are-text (s .args .n) (d .result) (s .fits .n .fits) (d .ensures .1 .0)) at (c .put .ensures)
 
 pub put-decimal-spec : {M : Type 1} → statement M
 put-decimal-spec =
     tie.close
-    (tie.spec
-    decimal-requires
-    array-share-prefix-digits
-    slice-aggregate-put
-    put-requires
-    same-length
-    returns)
+    (tie.spec decimal-requires array-share-prefix-digits slice-aggregate-put put-requires returns)

@@ -1,102 +1,48 @@
--- `text::output::put_hex` meets its contract. The invariant: the digits of the first i bytes are written.
-use Prim.Native.Nat.{_+_, _*_, _≤_, _-_}
-use native.Mathlib.Omega.{arith}
+-- `text::output::put_hex` meets its contract.
 use borrow.Author.Needs.{needs}
-use mathlib.Core.Path.{_≡_, refl}
-use lib.ListN.{length, take, length-set}
-use lib.Seq.{take-all}
-use Rattle.text.specs.Hex.{toHex}
-use Rattle.text.specs.Output.{Wrote}
-use Rattle.text.proofs.OutputLaws.{nothing}
-use Rattle.text.proofs.HexLaws.{pair-written, some-text, no-text}
+use native.Mathlib.Omega.{arith}
+use Rattle.text.proofs.OutputLaws.{put-there, put-past}
+use Rattle.text.proofs.PayloadLaws.{no-text, text-length}
 use Rattle.text.proofs.output.put_hex.Statement.{statement}
 use Rattle.text.proofs.output.put_hex.Tie as tie
 
-abbrev Inv-loop : tie.InvT-loop
-Inv-loop out₀ at s to₀ i₀ out to i = (i ≤ length s) × (to ≡ at + 2 * i) × (length out ≡ length out₀) × Wrote out₀ at (toHex (take i s)) out to
-
-abbrev μ-loop : tie.MeasureT-loop
-μ-loop out₀ at s to₀ i₀ out to i = length s - i
-
-put-byte-requires : tie.Need-put-byte-requires Inv-loop μ-loop
+put-byte-requires : tie.Need-put-byte-requires
 put-byte-requires c κs = search needs
 
-same-length : tie.Need-same-length Inv-loop μ-loop
-same-length c = search needs
+returns : tie.Need-returns
+returns c = rw (no-text _ (c .before .before .if1 .taken)) (c .put-byte .ensures)
 
-returns : tie.Need-returns Inv-loop μ-loop
-returns c =
-    let w = c .before .before .put-byte .ensures in
-    (rw (no-text _ (c .before .before .before .before .if1 .taken)) w, omega (arith, w .past))
+room-requires : tie.Need-room-requires
+room-requires c κs = search needs
 
-loop-holds : tie.Need-loop-holds Inv-loop μ-loop
-loop-holds c = (omega arith, omega arith, refl, nothing _ _ (omega arith))
+place-hex-requires : tie.Need-place-hex-requires
+place-hex-requires c κs = search needs
 
-shared-slice-read-b : tie.Need-shared-slice-read-b Inv-loop μ-loop
-shared-slice-read-b c = omega arith
-
-glyph-requires : tie.Need-glyph-requires Inv-loop μ-loop
-glyph-requires c κs = omega (arith, c .shared-slice-known2 .given (c .before .before .loop .i))
-
-slice-write-out : tie.Need-slice-write-out Inv-loop μ-loop
-slice-write-out c = omega arith
-
-glyph-requires-2 : tie.Need-glyph-requires-2 Inv-loop μ-loop
-glyph-requires-2 c κs = omega arith
-
-add-out : tie.Need-add-out Inv-loop μ-loop
-add-out c = omega arith
-
-slice-write-out-2 : tie.Need-slice-write-out-2 Inv-loop μ-loop
-slice-write-out-2 c = simp length-set (omega arith)
-
-add-to : tie.Need-add-to Inv-loop μ-loop
-add-to c = omega arith
-
-add-i : tie.Need-add-i Inv-loop μ-loop
-add-i c = omega arith
-
-loop-less : tie.Need-loop-less Inv-loop μ-loop
-loop-less c = omega arith
-
-loop-again : tie.Need-loop-again Inv-loop μ-loop
-loop-again c =
-    let l = c .before .before .before .before in
-    let s = l .before .before .before .before .args .s .now in (
-      omega arith,
-      omega arith,
-      simp length-set (l .loop .inv .2),
-      pair-written s (l .loop .i) _ _ (omega arith) (omega arith) (c .before .glyph .ensures) (c .glyph2 .ensures) (l .loop .inv .3),
-    )
-
-same-length-2 : tie.Need-same-length-2 Inv-loop μ-loop
-same-length-2 c = omega arith
-
-returns-2 : tie.Need-returns-2 Inv-loop μ-loop
+returns-2 : tie.Need-returns-2
 returns-2 c =
-    let l = c .before in
-    let s = l .before .before .before .before .args .s .now in
-    (rw (some-text s (omega arith), ← take-all (l .loop .i) s (omega arith)) (l .loop .inv .3), omega arith)
+    let n = text-length (c .before .before .before .before .before .before .before .args .s .now) (omega arith) in
+    put-there (c .before .before .room .ensures .0) (omega (arith, n)) (c .place-hex .ensures)
+
+flush-requires : tie.Need-flush-requires
+flush-requires c κs = search needs
+
+print-hex-requires : tie.Need-print-hex-requires
+print-hex-requires c κs = search needs
+
+returns-3 : tie.Need-returns-3
+returns-3 c =
+    let n = text-length (c .before .before .before .before .before .before .before .args .s .now) (omega arith) in
+    put-past (omega (arith, n)) (c .before .flush .ensures)
 
 pub put-hex-spec : {M : Type 1} → statement M
 put-hex-spec =
     tie.close
     (tie.spec
-    Inv-loop
-    μ-loop
     put-byte-requires
-    same-length
     returns
-    loop-holds
-    shared-slice-read-b
-    glyph-requires
-    slice-write-out
-    glyph-requires-2
-    add-out
-    slice-write-out-2
-    add-to
-    add-i
-    loop-less
-    loop-again
-    same-length-2
-    returns-2)
+    room-requires
+    place-hex-requires
+    returns-2
+    flush-requires
+    print-hex-requires
+    returns-3)
