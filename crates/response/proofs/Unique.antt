@@ -13,7 +13,8 @@ use contract.Monad.{Fun, fact}
 use denote.Ref.{now}
 use denote.Triple.Clauses.{AtExit}
 use denote.Triple.Entry.{Args, Res}
-use Rattle.wire.proofs.Unique.{OneAnswer, OneContent, same}
+use Rattle.wire.specs.Uniqueness.{OneAnswer, OneContent}
+use Rattle.wire.proofs.Unique.{same}
 use Rattle.response.specs.declared.streams.StreamRecord.{StreamRecord}
 use Rattle.response.specs.declared.streams.Errors.{Errors}
 use Rattle.response.specs.declared.verdict.Verdict.{Verdict}
