@@ -206,13 +206,11 @@ impl Sheet<'_> {
 
     /// The least solution that keeps the deadline.
     fn waiting(&self, own: &Stream) -> Option<u64> {
-        if self.wrong == Wrong::SecondLeast {
-            let mut solutions = self.solutions(own);
-            let least = solutions.next()?;
-            return Some(solutions.next().unwrap_or(least));
-        }
         if own.d <= SEARCHED {
-            return self.solutions(own).next();
+            let mut solutions = self.solutions(own);
+            let least = solutions.next();
+            let second = if self.wrong == Wrong::SecondLeast { solutions.next() } else { None };
+            return second.or(least);
         }
         let mut waiting = 0;
         while self.in_time(own, waiting) {
