@@ -42,6 +42,7 @@ pub mod search;
 pub mod sender;
 pub mod settings;
 pub mod sheet;
+pub mod sheet_table;
 pub mod shrink;
 pub mod told;
 pub mod words;

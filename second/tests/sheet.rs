@@ -1,7 +1,8 @@
-//! The text format of `sheet`, and Table 3 of source document 001.
+//! The text format of `sheet`, Table 3 of source document 001, and the table for people.
 
 use second::response::Wrong;
 use second::sheet::answer;
+use second::sheet_table::table;
 
 fn says(line: &str) -> String {
     answer(line.as_bytes(), Wrong::Nothing)
@@ -63,4 +64,35 @@ fn what_can_not_be_read() {
     ] {
         assert_eq!(says(line), "?", "{line:?}");
     }
+}
+
+fn shown(text: &str) -> Result<String, Vec<String>> {
+    table("plan", text, |line| Ok(says(line)))
+}
+
+#[test]
+fn a_table_with_names() {
+    let text = "# two\nerrors 0 1 0\n\nlamp 2 2 10 10\nsweep-head 9 3 10 5\n";
+    let due = "stream      waiting  response  deadline  margin\n\
+               lamp              3         5        10       5\n\
+               sweep-head        2         5         5       0\n";
+    assert_eq!(shown(text).as_deref(), Ok(due));
+}
+
+#[test]
+fn what_is_wrong_in_which_line() {
+    let wrong = |text: &str| shown(text).err().unwrap_or_default().join("\n");
+    assert_eq!(
+        wrong("errors 0 1 0\nlamp 2 2 10 10\nhead 9 3 10 4\n"),
+        "plan:3: head can be late: no waiting time satisfies its equation and, with a message of 3 bits, its deadline of 4 bits"
+    );
+    assert_eq!(wrong("lamp 2 2 10\n"), "plan:1: 4 numbers are wanted here: PRIORITY C T D");
+    assert_eq!(wrong("\nlamp 2 0 10 10\n"), "plan:2: C is 0, and must be a number from 1 to 1000000");
+    assert_eq!(wrong("lamp 2 1 9 9\nhead 2 1 9 9\n"), "plan:2: priority 2 is that of lamp in line 1 too");
+    assert_eq!(wrong("errors 17 1 0\n"), "plan:1: N is 17, and must be a number from 0 to 16");
+    assert_eq!(wrong("errors 1 1 0\nerrors 1 1 0\n"), "plan:2: a second line for the errors; line 1 has them");
+    assert_eq!(wrong("# nothing\n"), "plan: there is no stream");
+    assert_eq!(wrong("lamp 2 2 10 10\n"), "plan: there is no line `errors N PERIOD INACC`");
+    let many: String = (1..=65).map(|number| format!("s{number} {number} 1 1000000 1000000\n")).collect();
+    assert_eq!(wrong(&many), "plan:65: this is the 65th stream, and 64 are the most");
 }
