@@ -9,10 +9,19 @@
  *
  * The node's calls take the whole node and give it back in their answer.
  *
- * The functions are in the static library that `rt staticlib firmware` writes.
+ * The functions are in the static library libkosmydore.a, which `./kosmydore library DIR` puts into a
+ * folder, with this header beside it.
+ *
+ * SPDX-License-Identifier: Apache-2.0
  */
 #ifndef KOSMYDORE_H
 #define KOSMYDORE_H
+
+/* The version, as the file VERSION and `./kosmydore --version` have it. */
+#define KOSMYDORE_VERSION "4.0.0"
+#define KOSMYDORE_VERSION_MAJOR 4
+#define KOSMYDORE_VERSION_MINOR 0
+#define KOSMYDORE_VERSION_PATCH 0
 
 #include <stdbool.h>
 #include <stddef.h>

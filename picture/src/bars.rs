@@ -1,11 +1,13 @@
 //! The windows on the rows: a bar with the message and how its window ended, and the shade on the lanes that have it.
 
+use second::messages::End;
+
 use crate::lanes::Ground;
 use crate::letters::{width_of_bold, width_of_mono, LETTER};
 use crate::rows::{extent, Row};
 use crate::scene::Scene;
 use crate::svg::{Anchor, Svg};
-use crate::windows::{Verdict, Window};
+use crate::windows::Window;
 
 const BAR: i32 = 20;
 const BAR_ROOM: i32 = 4;
@@ -59,13 +61,13 @@ impl Fragment<'_> {
         }
     }
 
-    fn word(&self) -> &'static str {
-        self.window.verdict.word()
+    fn word(&self) -> String {
+        self.window.word()
     }
 
     fn word_width(&self) -> i32 {
         if self.ends {
-            width_of_bold(self.word(), WORD_LETTER) + 14
+            width_of_bold(&self.word(), WORD_LETTER) + 14
         } else {
             0
         }
@@ -93,6 +95,11 @@ impl<'a> Bars<'a> {
         self.fragments.push(fragment);
     }
 
+    /// Where the bars end.
+    pub fn right(&self) -> i32 {
+        self.fragments.iter().map(Fragment::right).max().unwrap_or(0)
+    }
+
     pub fn height(&self) -> i32 {
         self.levels as i32 * (BAR + BAR_ROOM)
     }
@@ -108,7 +115,7 @@ impl<'a> Bars<'a> {
                 if let Some(last) = last {
                     let (top, bottom) = (ground.lanes[lane].1, ground.lanes[last].2);
                     svg.rect("shade", (from, top), (until - from, bottom - top), 0);
-                    if fragment.ends && fragment.window.verdict != Verdict::Open {
+                    if fragment.ends && fragment.window.end != End::Open {
                         svg.line("edge", (until, top), (until, bottom));
                     }
                     lane = last;
@@ -139,11 +146,11 @@ impl<'a> Bars<'a> {
             });
             if fragment.ends {
                 let width = fragment.word_width();
-                svg.group(&format!("verdict {}", fragment.word()), &title, |svg| {
-                    let class = if window.verdict == Verdict::Open { "h broken" } else { "s" };
+                svg.group(&format!("verdict {}", window.end.word()), &title, |svg| {
+                    let class = if window.end == End::Open { "h broken" } else { "s" };
                     svg.rect(class, (right - width, top), (width, BAR), 2);
-                    let class = if window.verdict == Verdict::Open { "" } else { "on" };
-                    svg.text(class, (right - width / 2, top + 15), Anchor::Middle, fragment.word());
+                    let class = if window.end == End::Open { "" } else { "on" };
+                    svg.text(class, (right - width / 2, top + 15), Anchor::Middle, &fragment.word());
                 });
             }
         }

@@ -1,4 +1,4 @@
-//! The time line: a cell for each tick, with what happened in it from left to right, and for each long quiet stretch.
+//! The time line: a column for each tick, with what happened in it from left to right, and for each long quiet stretch.
 
 use std::collections::BTreeMap;
 
@@ -6,23 +6,20 @@ use crate::letters::width_of;
 use crate::marks::{figure, run, Figure};
 use crate::scene::{Moment, Scene, Seen};
 
-/// So many quiet ticks in a row are folded into one cell.
+/// So many quiet ticks in a row are folded into one column.
 const FOLD_LEAST: u64 = 7;
-/// The least width of a tick, the room at its line, and between two places in it.
+/// The least width of a tick, and the letters of its number.
 const TICK_LEAST: i32 = 27;
-const TICK_ROOM: i32 = 8;
-const BETWEEN: i32 = 9;
-/// The letters at ticks, and the room that the number of a note takes to either side.
 pub const TICK_LETTER: i32 = 12;
+/// The room that the number of a note takes to either side.
 const NOTE_HALF: i32 = 10;
 
-/// A place on the time line.
+/// What stands at one place of the time line.
 #[derive(Clone, Debug)]
 pub struct Slot {
     pub figure: Figure,
-    /// From the cell's left edge.
-    pub x: i32,
-    /// Where its room ends.
+    /// The room that it takes to either side of its place.
+    pub left: i32,
     pub right: i32,
     pub note: Option<usize>,
     /// Deliveries and drops, which belong to the tick itself.
@@ -30,39 +27,43 @@ pub struct Slot {
 }
 
 impl Slot {
-    /// Where the request of this line stands, if it stands here.
+    /// How far beside its place the request of this line ends, if it stands here.
     pub fn request_of(&self, line: usize) -> Option<i32> {
         let mark = self.figure.marks.iter().find(|mark| mark.line == line && mark.class == "request taken")?;
-        mark.pieces.first().map(|piece| self.x + piece.right)
+        mark.pieces.first().map(|piece| piece.right)
+    }
+
+    pub fn width(&self) -> i32 {
+        self.left + self.right
     }
 }
 
 #[derive(Clone, Debug)]
-pub enum Cell {
+pub enum Column {
     Tick {
         tick: u64,
-        /// The tick began in the row before.
-        continued: bool,
         slots: Vec<Slot>,
-        width: i32,
+        /// A window ends just after this tick.
+        ends: bool,
     },
     Fold {
         ticks: u64,
-        width: i32,
     },
 }
 
-impl Cell {
-    pub fn width(&self) -> i32 {
+impl Column {
+    pub fn slots(&self) -> &[Slot] {
         match self {
-            Cell::Tick { width, .. } | Cell::Fold { width, .. } => *width,
+            Column::Tick { slots, .. } => slots,
+            Column::Fold { .. } => &[],
         }
     }
 
-    pub fn slots(&self) -> &[Slot] {
+    /// Its width if nothing happens in it.
+    pub fn quiet_width(&self) -> i32 {
         match self {
-            Cell::Tick { slots, .. } => slots,
-            Cell::Fold { .. } => &[],
+            Column::Tick { tick, .. } => tick_width(*tick, false),
+            Column::Fold { ticks } => width_of(&fold_text(*ticks), TICK_LETTER) + 20,
         }
     }
 }
@@ -79,73 +80,56 @@ pub fn fold_text(ticks: u64) -> String {
     format!("{ticks} ticks")
 }
 
-/// The cells of a history, none wider than `most` unless a single place is.
-pub fn cells(scene: &Scene, most: i32) -> Vec<Cell> {
+/// The width of a tick in which nothing happens.
+pub fn tick_width(tick: u64, continued: bool) -> i32 {
+    TICK_LEAST.max(width_of(&tick_text(tick, continued), TICK_LETTER) + 8)
+}
+
+/// The columns of a history.
+pub fn columns(scene: &Scene) -> Vec<Column> {
     let mut ticks: BTreeMap<u64, Vec<&Moment>> = BTreeMap::new();
-    let ends = scene.windows.iter().map(|window| window.until).filter(|until| *until <= scene.end);
-    for tick in ends.chain([0, scene.end]) {
+    let ends: Vec<u64> = scene.windows.iter().map(|window| window.until).filter(|until| *until <= scene.end).collect();
+    for tick in ends.iter().copied().chain([0, scene.end]) {
         ticks.entry(tick).or_default();
     }
     for moment in &scene.moments {
         ticks.entry(moment.tick).or_default().push(moment);
     }
-    let mut cells = Vec::new();
+    let mut columns = Vec::new();
     let mut next = 0;
     for (tick, moments) in ticks {
-        put_quiet(next, tick, &mut cells);
-        put_tick(scene, tick, &moments, most, &mut cells);
+        put_quiet(next, tick, &mut columns);
+        columns.push(Column::Tick { tick, slots: slots(scene, &moments), ends: ends.contains(&tick) });
         next = tick + 1;
     }
-    cells
+    columns
 }
 
 /// The quiet ticks before `until`.
-fn put_quiet(from: u64, until: u64, cells: &mut Vec<Cell>) {
+fn put_quiet(from: u64, until: u64, columns: &mut Vec<Column>) {
     if until - from >= FOLD_LEAST {
-        let ticks = until - from;
-        cells.push(Cell::Fold { ticks, width: width_of(&fold_text(ticks), TICK_LETTER) + 20 });
+        columns.push(Column::Fold { ticks: until - from });
     } else {
-        cells.extend((from..until).map(|tick| empty(tick, false)));
+        columns.extend((from..until).map(|tick| Column::Tick { tick, slots: Vec::new(), ends: false }));
     }
 }
 
-fn empty(tick: u64, continued: bool) -> Cell {
-    let width = TICK_LEAST.max(width_of(&tick_text(tick, continued), TICK_LETTER) + 8);
-    Cell::Tick { tick, continued, slots: Vec::new(), width }
-}
-
-/// A tick with its moments, in several cells if they need more than one may have.
-fn put_tick(scene: &Scene, tick: u64, moments: &[&Moment], most: i32, cells: &mut Vec<Cell>) {
-    let mut cell = empty(tick, false);
+fn slots(scene: &Scene, moments: &[&Moment]) -> Vec<Slot> {
+    let mut slots = Vec::new();
     let mut at = 0;
     while at < moments.len() {
         let taken = &moments[at..at + run(scene, &moments[at..])];
-        if !put_slot(scene, taken, most, &mut cell) {
-            cells.push(std::mem::replace(&mut cell, empty(tick, true)));
-            put_slot(scene, taken, most, &mut cell);
-        }
+        slots.push(slot(scene, taken));
         at += taken.len();
     }
-    cells.push(cell);
+    slots
 }
 
-/// Puts a slot at the end of a cell; not if it does not fit beside others.
-fn put_slot(scene: &Scene, moments: &[&Moment], most: i32, cell: &mut Cell) -> bool {
-    let Cell::Tick { slots, width, .. } = cell else {
-        return false;
-    };
+fn slot(scene: &Scene, moments: &[&Moment]) -> Slot {
     let figure = figure(scene, moments);
     let note = moments.iter().find_map(|moment| moment.note);
     let least = if note.is_some() { NOTE_HALF } else { 0 };
     let bounds = figure.bounds();
-    let begin = slots.last().map_or(TICK_ROOM, |slot| slot.right + BETWEEN);
-    let x = begin + bounds.left.max(least);
-    let right = x + bounds.right.max(least);
-    if !slots.is_empty() && right + TICK_ROOM > most {
-        return false;
-    }
     let settled = moments.iter().all(|moment| matches!(moment.seen, Seen::Deliveries(_) | Seen::Drops { .. }));
-    slots.push(Slot { figure, x, right, note, settled });
-    *width = (*width).max(right + TICK_ROOM);
-    true
+    Slot { figure, left: bounds.left.max(least), right: bounds.right.max(least), note, settled }
 }

@@ -28,8 +28,8 @@ pub fn draw(scene: &Scene, name: &str) -> String {
     let deaths: Vec<_> = (0..names.len()).map(|lane| death(&rows, lane)).collect();
     let bars = bars::fragments(scene, &rows);
     let (mut y, right) = head::draw(&mut svg, scene, title, (MARGIN, MARGIN), most);
-    let longest = rows.iter().map(|row| row.width).max().unwrap_or(0);
-    let inner = (gutter + longest).max(right - MARGIN).clamp(SHEET_LEAST - 2 * MARGIN, most);
+    let longest = rows.iter().zip(&bars).map(|(row, bars)| row.width.max(bars.right())).max().unwrap_or(0);
+    let inner = (gutter + longest).max(right - MARGIN).max(SHEET_LEAST - 2 * MARGIN);
     y += ROW_ROOM / 2;
     for (at, (row, bars)) in rows.iter().zip(&bars).enumerate() {
         let end = |lane: usize| match deaths[lane] {

@@ -1,6 +1,6 @@
-//! The head of the picture: its title, the streams with their numbers, and set ups that were refused.
+//! The head of the picture: its title, the streams with their numbers, set ups that were refused, and broken rules.
 
-use crate::letters::{width_of, wrapped, LETTER};
+use crate::letters::{width_of, width_of_prose, wrapped, LETTER};
 use crate::scene::{Scene, StreamRow};
 use crate::svg::{Anchor, Svg};
 
@@ -9,6 +9,8 @@ const BETWEEN: i32 = 22;
 /// Longer lists of modules are written by number.
 const NAMES_MOST: usize = 64;
 const TITLE_LETTER: i32 = 21;
+/// So many breaks of the rules are named.
+const BROKEN_MOST: usize = 5;
 const HEADS: [&str; 8] = ["stream", "class", "Rd", "dc", "Ra", "dd", "sent by", "received by"];
 
 fn class_name(class: u8) -> &'static str {
@@ -76,5 +78,27 @@ pub fn draw(svg: &mut Svg, scene: &Scene, title: &str, (left, top): (i32, i32), 
         svg.text("faint", (left, y), Anchor::Start, &text);
         right = right.max(left + width_of(&text, LETTER));
     }
+    y += 6;
+    for (class, text) in rules(scene) {
+        // Digits and names are wider than prose.
+        for line in wrapped(&text, most * 9 / 10, LETTER) {
+            y += ROW;
+            svg.text(class, (left, y), Anchor::Start, &line);
+            right = right.max(left + width_of_prose(&line, LETTER));
+        }
+    }
     (y + 10, right)
+}
+
+/// Whether the history keeps the bench rules, and where it breaks them.
+fn rules(scene: &Scene) -> Vec<(&'static str, String)> {
+    if scene.broken.is_empty() {
+        return vec![("keeps", "The history keeps the bench rules.".to_string())];
+    }
+    let mut says: Vec<(&str, String)> =
+        scene.broken.iter().take(BROKEN_MOST).map(|text| ("breaks", text.clone())).collect();
+    if scene.broken.len() > BROKEN_MOST {
+        says.push(("breaks", format!("and {} more", scene.broken.len() - BROKEN_MOST)));
+    }
+    says
 }

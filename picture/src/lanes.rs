@@ -1,9 +1,9 @@
 //! A row of the picture: ticks, lanes with their marks, and notes below them.
 
 use crate::bars::Bars;
-use crate::columns::{fold_text, tick_text, Cell};
+use crate::columns::{fold_text, tick_text};
 use crate::letters::{wrapped, LETTER};
-use crate::rows::Row;
+use crate::rows::{Cell, Row};
 use crate::shapes::Bounds;
 use crate::svg::{Anchor, Svg};
 

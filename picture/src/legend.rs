@@ -4,9 +4,8 @@ use std::collections::BTreeSet;
 
 use second::ident::Code;
 
-use crate::columns::Cell;
 use crate::letters::wrapped;
-use crate::rows::Row;
+use crate::rows::{Cell, Row};
 use crate::scene::Scene;
 use crate::shapes::{Piece, Shape};
 use crate::svg::{Anchor, Svg};
@@ -73,7 +72,7 @@ fn entries() -> Vec<Entry> {
 /// The beginnings of classes that occur.
 fn occurring(scene: &Scene, rows: &[Row]) -> BTreeSet<String> {
     let cells = || rows.iter().flat_map(|row| &row.cells).map(|placed| &placed.cell);
-    let marks = cells().flat_map(Cell::slots).flat_map(|slot| &slot.figure.marks);
+    let marks = cells().flat_map(Cell::slots).flat_map(|(_, slot)| &slot.figure.marks);
     let mut found: BTreeSet<String> = marks.map(|mark| mark.class.clone()).collect();
     if !scene.windows.is_empty() {
         found.insert("window".to_string());
@@ -122,7 +121,7 @@ fn closing(scene: &Scene) -> Vec<&'static str> {
         "A module gives out an abort when it has dropped a message, or heard a confirmation and held nothing; \
                   who hears one drops what it holds.";
     let windows = "At a window's end: all, if every live receiver has delivered the message once; none, if none has; \
-                   else differs; open, if the history ends before.";
+                   else differs, with the bench rule that the history breaks; open, if the history ends before.";
     let has_aborts = scene.frames.iter().any(|frame| frame.code == Code::Abort);
     let says = [(true, letters), (has_aborts, aborts), (!scene.windows.is_empty(), windows)];
     says.into_iter().filter(|(holds, _)| *holds).map(|(_, text)| text).collect()

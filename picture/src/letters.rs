@@ -26,7 +26,7 @@ pub fn width_of_bold(text: &str, size: i32) -> i32 {
     width(text, size, BOLD)
 }
 
-fn width_of_prose(text: &str, size: i32) -> i32 {
+pub fn width_of_prose(text: &str, size: i32) -> i32 {
     width(text, size, PROSE)
 }
 

@@ -19,12 +19,18 @@ pub mod svg;
 pub mod tag;
 pub mod windows;
 
-use reading::Trouble;
 use scene::Scene;
+use second::judge::Judgement;
+use second::pairs::{pair, Trouble};
 
 /// The picture of a history and its answers; `name` stands for a title that the history does not give.
 pub fn picture(name: &str, history: &[u8], answers: &[String]) -> Result<String, Vec<Trouble>> {
-    let told = reading::pair(history, answers)?;
-    let scene = Scene::of(&told)?;
-    Ok(draw::draw(&scene, name))
+    Ok(draw::draw(&scene(history, answers)?, name))
+}
+
+/// What there is to see in a history and its answers.
+pub fn scene(history: &[u8], answers: &[String]) -> Result<Scene, Vec<Trouble>> {
+    let pairs = pair(history, answers)?;
+    let judgement = Judgement::of(&pairs);
+    Ok(Scene::of(&reading::with_captions(history, pairs), &judgement))
 }

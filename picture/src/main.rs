@@ -6,13 +6,12 @@ use std::time::Duration;
 use std::{env, fs};
 
 use picture::picture;
+use second::pairs::named;
 use second::program::Program;
 
 const USAGE: &str = "usage: picture HARNESS FILE OUT.svg";
 /// How long the harness may take.
 const LIMIT: Duration = Duration::from_secs(600);
-/// So many lines with errors are named.
-const NAMED_MOST: usize = 20;
 
 fn run(harness: &str, file: &str, out: &str) -> Result<(), Vec<String>> {
     let one = |says: String| vec![says];
@@ -26,14 +25,7 @@ fn run(harness: &str, file: &str, out: &str) -> Result<(), Vec<String>> {
         return Err(one(format!("the harness {harness} failed: {trouble}")));
     }
     let name = Path::new(file).file_stem().map_or(file.into(), |stem| stem.to_string_lossy());
-    let svg = picture(&name, &history, &answers.lines).map_err(|troubles| {
-        let mut says: Vec<String> =
-            troubles.iter().take(NAMED_MOST).map(|trouble| format!("{file}: {trouble}")).collect();
-        if troubles.len() > NAMED_MOST {
-            says.push(format!("{file}: and {} more", troubles.len() - NAMED_MOST));
-        }
-        says
-    })?;
+    let svg = picture(&name, &history, &answers.lines).map_err(|troubles| named(file, &troubles))?;
     fs::write(out, svg).map_err(|error| one(format!("{out} can't be written: {error}")))
 }
 

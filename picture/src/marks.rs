@@ -177,8 +177,9 @@ fn put(scene: &Scene, moment: &Moment, right: i32, figure: &mut Figure) {
         Seen::Drops { tag, modules } => {
             for module in modules {
                 let title = format!("{} heard {} and did not deliver it", scene.name(*module), tag.text());
-                let word = Shape::Reply { text: "dropped".to_string(), beside: false };
-                mark(*module, "drop", title, vec![Piece::here(record(tag, true)), Piece::here(word)]);
+                let record = record(tag, true);
+                let word = record.reply("dropped");
+                mark(*module, "drop", title, vec![Piece::here(record), Piece::here(word)]);
             }
         }
         Seen::Request { module, tag, refused: None } => {
@@ -188,7 +189,7 @@ fn put(scene: &Scene, moment: &Moment, right: i32, figure: &mut Figure) {
         }
         Seen::Request { module, tag, refused: Some(why) } => {
             let square = Shape::Square { text: REQUEST.to_string(), broken: true };
-            let reply = Shape::Reply { text: why.clone(), beside: false };
+            let reply = square.reply(why.clone());
             let title = format!("{} is asked to send {}, and refuses: {why}", scene.name(*module), tag.text());
             let pieces = vec![Piece::here(square), label(tag, 0, Anchor::Middle), Piece::here(reply)];
             mark(*module, "request refused", title, pieces);
@@ -202,7 +203,7 @@ fn put(scene: &Scene, moment: &Moment, right: i32, figure: &mut Figure) {
         Seen::GiveNothing { module, says } => {
             let pill = Shape::Pill { text: "–".to_string(), solid: false, broken: true };
             let title = format!("{} gives out no frame: {says}", scene.name(*module));
-            let reply = Shape::Reply { text: says.to_string(), beside: false };
+            let reply = pill.reply(*says);
             mark(*module, "nothing", title, vec![Piece::here(pill), Piece::here(reply)]);
         }
         Seen::Sending { frame, full, heard, missed } => {
@@ -212,7 +213,7 @@ fn put(scene: &Scene, moment: &Moment, right: i32, figure: &mut Figure) {
             let frame = &scene.frames[*number];
             let pill = Shape::Pill { text: pill_text(frame, *number), solid: false, broken: true };
             let title = format!("{} is dead: {} is not sent", scene.name(frame.owner), frame_text(frame, *number));
-            let reply = Shape::Reply { text: "dead".to_string(), beside: false };
+            let reply = pill.reply("dead");
             mark(frame.owner, "unsent", title, vec![Piece::here(pill), Piece::here(reply)]);
         }
         Seen::Death { module } => {

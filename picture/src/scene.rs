@@ -5,11 +5,13 @@ use std::collections::BTreeMap;
 use second::bench::{Delivery, Hearing, Outcome};
 use second::history::{Event, Hearers};
 use second::ident::Code;
+use second::judge::Judgement;
+use second::pairs::What as Answered;
 use second::reply::Reply;
 use second::settings::Asked;
 
 use crate::captions::Caption;
-use crate::reading::{Told, Trouble, What};
+use crate::reading::{Told, What};
 use crate::tag::Tag;
 use crate::windows::{self, Window};
 
@@ -76,7 +78,7 @@ pub enum Seen {
     Death {
         module: usize,
     },
-    /// Nothing but a note at the end.
+    /// Nothing but a note, after which time goes on or the history ends.
     Remark,
 }
 
@@ -103,58 +105,61 @@ pub struct Scene {
     pub moments: Vec<Moment>,
     pub windows: Vec<Window>,
     pub notes: Vec<String>,
+    /// What the history breaks of the bench rules.
+    pub broken: Vec<String>,
     /// The tick count at the end.
     pub end: u64,
 }
 
 impl Scene {
-    pub fn of(told: &[Told]) -> Result<Scene, Vec<Trouble>> {
-        let mut scene = Scene::default();
+    pub fn of(told: &[Told], judgement: &Judgement) -> Scene {
+        let broken = judgement.findings.iter().map(ToString::to_string).collect();
+        let mut scene = Scene { broken, ..Scene::default() };
         let mut names: BTreeMap<usize, &str> = BTreeMap::new();
-        let mut note: Vec<&str> = Vec::new();
-        let mut troubles = Vec::new();
+        let mut waiting: Vec<&str> = Vec::new();
         for Told { line, what } in told {
             match what {
                 What::Caption(Caption::Title(title)) => scene.title = Some(title.clone()),
                 What::Caption(Caption::Name { module, name }) => {
                     names.insert(*module, name);
                 }
-                What::Caption(Caption::Note(text)) => note.push(text),
-                What::Modules(modules) => {
+                What::Caption(Caption::Note(text)) => waiting.push(text),
+                What::Answered(Answered::Modules(modules)) => {
                     scene.names = vec![String::new(); *modules];
                     scene.deaths = vec![None; *modules];
                 }
-                What::SetUp { module, asked, reply: Reply::Done } => scene.set_ups.push((*module, *asked)),
-                What::SetUp { module, asked, reply } => {
+                What::Answered(Answered::SetUp { module, asked, reply: Reply::Done }) => {
+                    scene.set_ups.push((*module, *asked));
+                }
+                What::Answered(Answered::SetUp { module, asked, reply }) => {
                     scene.refused.push(Refused { line: *line, module: *module, stream: asked.stream, reply: *reply });
                 }
-                What::Event(event, outcome) => match scene.seen(event, outcome) {
-                    Some(seen) => {
-                        for (tick, seen) in seen {
-                            let note = scene.noted(&mut note);
-                            scene.moments.push(Moment { line: *line, tick, seen, note });
-                        }
+                What::Answered(Answered::Event(event, outcome)) => {
+                    if matches!(event, Event::Tick | Event::Ticks(_)) {
+                        scene.remark(*line, &mut waiting);
                     }
-                    None => troubles.push(Trouble::new(*line, "the answer names a module that is not there")),
-                },
+                    for (tick, seen) in scene.seen(event, outcome) {
+                        let note = scene.noted(&mut waiting);
+                        scene.moments.push(Moment { line: *line, tick, seen, note });
+                    }
+                }
             }
         }
-        if !note.is_empty() {
-            let (line, tick) = (told.last().map_or(0, |told| told.line), scene.end);
-            let note = scene.noted(&mut note);
-            scene.moments.push(Moment { line, tick, seen: Seen::Remark, note });
-        }
+        scene.remark(told.last().map_or(0, |told| told.line), &mut waiting);
         for (module, name) in names {
             if let Some(place) = scene.names.get_mut(module) {
                 *place = name.to_string();
             }
         }
-        scene.windows = windows::windows(&scene);
+        scene.windows = windows::windows(&scene, judgement);
         scene.put_drops();
-        if troubles.is_empty() {
-            Ok(scene)
-        } else {
-            Err(troubles)
+        scene
+    }
+
+    /// Puts the notes that wait where they were written, before time goes on.
+    fn remark(&mut self, line: usize, waiting: &mut Vec<&str>) {
+        if let Some(note) = self.noted(waiting) {
+            self.moments.push(Moment { line, tick: self.end, seen: Seen::Remark, note: Some(note) });
         }
     }
 
@@ -168,14 +173,12 @@ impl Scene {
         Some(self.notes.len())
     }
 
-    /// What an event's answer shows, with the ticks; none if it names a module that is not there.
-    fn seen(&mut self, event: &Event, outcome: &Outcome) -> Option<Vec<(u64, Seen)>> {
-        let there = |module: usize| (module < self.names.len()).then_some(());
+    /// What an event's answer shows, with the ticks.
+    fn seen(&mut self, event: &Event, outcome: &Outcome) -> Vec<(u64, Seen)> {
         let seen = match (event, outcome) {
             (_, Outcome::Ticked { count, delivered }) => {
-                delivered.iter().try_for_each(|delivery| there(delivery.module))?;
                 self.end = *count;
-                return Some(by_tick(delivered));
+                return by_tick(delivered);
             }
             (Event::Request { module, stream, payload }, outcome) => Seen::Request {
                 module: *module,
@@ -196,8 +199,7 @@ impl Scene {
             (Event::Give { module }, Outcome::Dead) => Seen::GiveNothing { module: *module, says: "dead" },
             (Event::Give { module }, _) => Seen::GiveNothing { module: *module, says: "nothing" },
             (Event::Send { frame, hearers }, Outcome::Heard(heard)) => {
-                heard.iter().try_for_each(|hearing| there(hearing.module))?;
-                let owner = self.frames.get(*frame)?.owner;
+                let owner = self.frames[*frame].owner;
                 let hears = |module: usize| heard.iter().any(|hearing| hearing.module == module);
                 let missed = (0..self.names.len())
                     .filter(|module| *module != owner && self.deaths[*module].is_none() && !hears(*module))
@@ -205,14 +207,14 @@ impl Scene {
                 Seen::Sending { frame: *frame, full: *hearers == Hearers::Full, heard: heard.clone(), missed }
             }
             (Event::Send { frame, .. }, _) => Seen::NoSending { frame: *frame },
-            (Event::Death { module }, _) if self.deaths[*module].is_some() => return Some(Vec::new()),
+            (Event::Death { module }, _) if self.deaths[*module].is_some() => return Vec::new(),
             (Event::Death { module }, _) => {
                 self.deaths[*module] = Some(self.end);
                 Seen::Death { module: *module }
             }
-            _ => return None,
+            _ => return Vec::new(),
         };
-        Some(vec![(self.end, seen)])
+        vec![(self.end, seen)]
     }
 
     /// Whether a module has a slot for a stream.

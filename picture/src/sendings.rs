@@ -37,7 +37,7 @@ pub fn put(
         let (kind, shapes) = match hearing.reply {
             Reply::Done => ("taken", vec![arrow(true)]),
             Reply::NotMine => ("other", vec![Shape::Ring]),
-            _ => ("refused", vec![arrow(false), Shape::Reply { text: reply, beside: true }]),
+            _ => ("refused", vec![arrow(false), Shape::beside(reply)]),
         };
         mark(hearing.module, format!("heard {kind} {class}"), title, shapes);
         if let Some(tag) = at_once {

@@ -61,8 +61,8 @@ pub enum Shape {
     End,
     /// What stands above a mark.
     Label { lines: Vec<String>, anchor: Anchor },
-    /// What stands below a mark, beside a line that goes on there.
-    Reply { text: String, beside: bool },
+    /// What stands below a mark that reaches so far below the lane; `beside` a line that goes on there.
+    Reply { text: String, below: i32, beside: bool },
 }
 
 /// A shape so far to the right of its mark's place.
@@ -102,6 +102,16 @@ fn half_record(lines: &[String]) -> (i32, i32) {
 }
 
 impl Shape {
+    /// A text below this shape.
+    pub fn reply(&self, text: impl Into<String>) -> Shape {
+        Shape::Reply { text: text.into(), below: self.bounds().below, beside: false }
+    }
+
+    /// A text at a hearer's lane, beside the line of the sending.
+    pub fn beside(text: String) -> Shape {
+        Shape::Reply { text, below: HALF, beside: true }
+    }
+
     fn bounds(&self) -> Bounds {
         match self {
             Shape::Pill { text, .. } | Shape::Square { text, .. } => Bounds::around(half_width(text), HALF),
@@ -127,10 +137,10 @@ impl Shape {
                 };
                 Bounds { left, right, above: HALF + CLEAR + lines.len() as i32 * LINE, below: 0 }
             }
-            Shape::Reply { text, beside } => {
+            Shape::Reply { text, below, beside } => {
                 let width = width_of(text, SMALL_LETTER);
                 let (left, right) = if *beside { (0, BESIDE + width) } else { ((width + 1) / 2, (width + 1) / 2) };
-                Bounds { left, right, above: 0, below: HALF + CLEAR + SMALL_LETTER }
+                Bounds { left, right, above: 0, below: below + CLEAR + SMALL_LETTER }
             }
         }
     }
@@ -182,9 +192,9 @@ impl Shape {
                     svg.text("p", (x, y - HALF - CLEAR - at as i32 * LINE), *anchor, line);
                 }
             }
-            Shape::Reply { text, beside } => {
+            Shape::Reply { text, below, beside } => {
                 let (right, anchor) = if *beside { (BESIDE, Anchor::Start) } else { (0, Anchor::Middle) };
-                svg.text("r", (x + right, y + HALF + SMALL_LETTER), anchor, text);
+                svg.text("r", (x + right, y + below + SMALL_LETTER), anchor, text);
             }
         }
     }

@@ -2,7 +2,7 @@
 //! not as CSS variables, which many programs that print or convert SVG do not know. Paper is always light.
 
 /// A selector, its property, and its colours in light and in dark.
-const COLOURS: [(&str, &str, &str, &str); 20] = [
+const COLOURS: [(&str, &str, &str, &str); 22] = [
     (".paper", "fill", "#ffffff", "#12161b"),
     ("svg", "color", "#1b1f24", "#e6e9ed"),
     (".faint", "color", "#5c6672", "#9aa5b1"),
@@ -23,6 +23,8 @@ const COLOURS: [(&str, &str, &str, &str); 20] = [
     (".all", "color", "#14663a", "#63d391"),
     (".none", "color", "#1b1f24", "#e6e9ed"),
     (".differs", "color", "#b3261e", "#ff8f80"),
+    (".keeps", "fill", "#14663a", "#63d391"),
+    (".breaks", "fill", "#b3261e", "#ff8f80"),
 ];
 
 /// What is the same in light and in dark. `s` solid, `h` hollow, `o` outline; `m` letters in marks, `p` payloads,

@@ -1,12 +1,13 @@
 //! Histories answered by the second implementation, and what the picture makes of them.
 
-use picture::columns::{cells, Cell};
+use picture::columns::{columns, Column};
 use picture::picture;
-use picture::reading::{pair, Trouble};
+use picture::rows::{rows, Cell, Row};
 use picture::scene::{Scene, Seen};
-use picture::windows::Verdict;
 use second::fault::Fault;
 use second::harness::Harness;
+use second::messages::End;
+use second::pairs::Trouble;
 
 /// Two receivers of a 2M stream: Rd 2, dc 3, Ra 2, dd 6.
 const SET_UP: &str = "modules 3\nsetup 0 5 1 2 2 3 2 6\nsetup 1 5 0 2 2 3 2 6\nsetup 2 5 0 2 2 3 2 6\n";
@@ -18,12 +19,11 @@ fn answers(history: &str) -> Vec<String> {
 
 fn scene(events: &str) -> Scene {
     let history = format!("{SET_UP}{events}");
-    let told = pair(history.as_bytes(), &answers(&history)).expect("a history that can be read");
-    Scene::of(&told).expect("a scene")
+    picture::scene(history.as_bytes(), &answers(&history)).expect("a history that can be read")
 }
 
-fn verdicts(events: &str) -> Vec<(Verdict, Vec<usize>)> {
-    scene(events).windows.iter().map(|window| (window.verdict, window.drops.clone())).collect()
+fn ends(events: &str) -> Vec<(End, Vec<usize>)> {
+    scene(events).windows.iter().map(|window| (window.end, window.drops.clone())).collect()
 }
 
 fn troubles(history: &str, answers: &[String]) -> Vec<Trouble> {
@@ -33,29 +33,29 @@ fn troubles(history: &str, answers: &[String]) -> Vec<Trouble> {
 #[test]
 fn how_windows_end() {
     let full = "request 0 5 07\ngive 0\nfull 0\ngive 0\nfull 1\n";
-    assert_eq!(verdicts(&format!("{full}ticks 9\n")), [(Verdict::All, vec![])]);
-    assert_eq!(verdicts(&format!("{full}ticks 8\n")), [(Verdict::Open, vec![])]);
+    assert_eq!(ends(&format!("{full}ticks 9\n")), [(End::All, vec![])]);
+    assert_eq!(ends(&format!("{full}ticks 8\n")), [(End::Open, vec![])]);
     let unconfirmed = "request 0 5 07\ngive 0\nfull 0\nticks 9\n";
-    assert_eq!(verdicts(unconfirmed), [(Verdict::None, vec![1, 2])]);
+    assert_eq!(ends(unconfirmed), [(End::None, vec![1, 2])]);
     let short = "request 0 5 07\ngive 0\nshort 0 1\ngive 0\nshort 1 1\nticks 9\n";
-    assert_eq!(verdicts(short), [(Verdict::Differs, vec![])]);
+    assert_eq!(ends(short), [(End::Differs, vec![])]);
     let half_confirmed = "request 0 5 07\ngive 0\nfull 0\ngive 0\nshort 1 1\nticks 9\n";
-    assert_eq!(verdicts(half_confirmed), [(Verdict::Differs, vec![2])]);
+    assert_eq!(ends(half_confirmed), [(End::Differs, vec![2])]);
 }
 
 #[test]
 fn the_dead_are_not_asked() {
     let short = "request 0 5 07\ngive 0\nshort 0 1\ngive 0\nshort 1 1\n";
-    assert_eq!(verdicts(&format!("{short}death 2\nticks 9\n")), [(Verdict::All, vec![])]);
-    assert_eq!(verdicts(&format!("{short}ticks 8\ndeath 2\ntick\n")), [(Verdict::All, vec![])]);
-    assert_eq!(verdicts(&format!("{short}ticks 9\ndeath 2\n")), [(Verdict::Differs, vec![])]);
-    assert_eq!(verdicts(&format!("{short}death 1\ndeath 2\nticks 9\n")), [(Verdict::None, vec![])]);
+    assert_eq!(ends(&format!("{short}death 2\nticks 9\n")), [(End::All, vec![])]);
+    assert_eq!(ends(&format!("{short}ticks 8\ndeath 2\ntick\n")), [(End::All, vec![])]);
+    assert_eq!(ends(&format!("{short}ticks 9\ndeath 2\n")), [(End::Differs, vec![])]);
+    assert_eq!(ends(&format!("{short}death 1\ndeath 2\nticks 9\n")), [(End::None, vec![])]);
 }
 
 #[test]
 fn a_refused_request_has_no_window() {
     let twice = "request 0 5 07\nrequest 0 5 08\nrequest 1 5 08\n";
-    assert_eq!(verdicts(twice).len(), 1);
+    assert_eq!(ends(twice).len(), 1);
 }
 
 #[test]
@@ -75,12 +75,11 @@ fn who_missed_a_short_sending() {
 #[test]
 fn quiet_stretches_are_folded() {
     let shown = |events: &str| -> Vec<String> {
-        let cells = cells(&scene(events), 900);
-        let text = |cell: &Cell| match cell {
-            Cell::Tick { tick, .. } => tick.to_string(),
-            Cell::Fold { ticks, .. } => format!("({ticks})"),
+        let text = |column: &Column| match column {
+            Column::Tick { tick, .. } => tick.to_string(),
+            Column::Fold { ticks } => format!("({ticks})"),
         };
-        cells.iter().map(text).collect()
+        columns(&scene(events)).iter().map(text).collect()
     };
     assert_eq!(shown("ticks 4\n"), ["0", "1", "2", "3", "4"]);
     assert_eq!(shown("ticks 1000000\n"), ["0", "(999999)", "1000000"]);
@@ -91,9 +90,94 @@ fn quiet_stretches_are_folded() {
 #[test]
 fn a_tick_too_wide_for_a_row_is_continued() {
     let many = "request 0 5 07\n".repeat(100);
-    let cells = cells(&scene(&many), 900);
-    assert!(cells.len() > 1 && cells.iter().all(|cell| cell.width() <= 900));
-    assert_eq!(cells.iter().map(|cell| cell.slots().len()).sum::<usize>(), 100);
+    let rows = rows(&scene(&many), 900);
+    assert!(rows.len() > 1 && rows.iter().all(|row| row.width <= 900));
+    assert_eq!(rows.iter().map(|row| row.slots().count()).sum::<usize>(), 100);
+    let continued = |row: &Row| matches!(row.cells[0].cell, Cell::Tick { tick: 0, continued: true, .. });
+    assert!(rows[1..].iter().all(continued));
+}
+
+/// Whatever the width is at which a row is full, no row has nothing but ticks.
+#[test]
+fn no_row_is_empty() {
+    let wide = "request 0 5 0011223344556677\n".repeat(4);
+    for events in [
+        format!("ticks 20\n{wide}ticks 20\n"),
+        format!("ticks 3\n{wide}ticks 4\n{wide}ticks 6\n"),
+        format!("{wide}give 0\nfull 0\ngive 0\nfull 1\nticks 30\nrequest 0 5 08\nticks 30\n"),
+    ] {
+        let scene = scene(&events);
+        for width in 600..960 {
+            let rows = rows(&scene, width);
+            assert!(rows.iter().all(|row| row.slots().next().is_some()), "{events} at {width}");
+            assert!(rows.iter().all(|row| row.width <= width), "{events} at {width}");
+        }
+    }
+}
+
+/// The word below a record stands below all lines of it.
+#[test]
+fn long_payloads_are_not_overprinted() {
+    for payload in ["-", "07", "0011223344556677"] {
+        let set_up = SET_UP.replace(" 5 ", " 134217727 ");
+        let history = format!("{set_up}request 0 134217727 {payload}\ngive 0\nfull 0\nticks 9\n");
+        let svg = picture("history", history.as_bytes(), &answers(&history)).expect("a picture");
+        let drop =
+            svg.split("<g class=\"mark drop\">").nth(1).and_then(|rest| rest.split("</g>").next()).expect("a drop");
+        let number = |line: &str, name: &str| -> i32 {
+            let value = line.split(&format!(" {name}=\"")).nth(1).and_then(|rest| rest.split('"').next());
+            value.and_then(|value| value.parse().ok()).expect("a number")
+        };
+        let find = |part: &str| drop.lines().find(|line| line.contains(part)).expect("a part of the drop");
+        let record = find("<rect");
+        let bottom = number(record, "y") + number(record, "height");
+        let word = find(">dropped<");
+        assert!(number(word, "y") - 10 >= bottom, "{drop}");
+        let lines = drop.lines().filter(|line| line.contains("class=\"p b\""));
+        assert!(lines.clone().count() > 0 && lines.into_iter().all(|line| number(line, "y") < bottom), "{drop}");
+    }
+}
+
+/// The ticks and the lines of moments that have a note.
+fn noted(events: &str) -> Vec<(u64, bool)> {
+    let scene = scene(events);
+    let noted = scene.moments.iter().filter(|moment| moment.note.is_some());
+    noted.map(|moment| (moment.tick, moment.seen == Seen::Remark)).collect()
+}
+
+#[test]
+fn a_note_stands_where_it_was_written() {
+    assert_eq!(noted("ticks 3\n# note: x\nrequest 0 5 07\n"), [(3, false)]);
+    assert_eq!(noted("ticks 3\n# note: x\nticks 100\nrequest 0 5 07\n"), [(3, true)]);
+    assert_eq!(noted("ticks 3\n# note: x\n# note: y\ntick\n"), [(3, true)]);
+    assert_eq!(noted("ticks 3\n# note: x\n"), [(3, true)]);
+    let delivered = "request 0 5 07\ngive 0\nfull 0\ngive 0\nfull 1\n# note: x\nticks 9\n# note: y\nticks 100\n";
+    assert_eq!(noted(delivered), [(0, true), (9, true)]);
+}
+
+/// A history that breaks a rule says so beside what differs, and in the head.
+#[test]
+fn the_verdict_on_the_rules() {
+    let drawn = |events: &str| {
+        let history = format!("{SET_UP}{events}");
+        picture("history", history.as_bytes(), &answers(&history)).expect("a picture")
+    };
+    let kept = drawn("request 0 5 07\ngive 0\nfull 0\ngive 0\nfull 1\nticks 9\n");
+    assert!(kept.contains(">The history keeps the bench rules.<") && !kept.contains("breaks rule"));
+    let broken = drawn("request 0 5 07\ngive 0\nshort 0 1\ngive 0\nshort 1 1\nticks 9\n");
+    assert!(broken.contains("<text class=\"breaks\" ") && broken.contains("line 9: breaks rule 2, TwoOmissions: "));
+    assert!(broken.contains(">differs: rule 2 broken<") && !broken.contains("keeps the bench rules"));
+}
+
+/// What differs with no rule broken would be a fault of the node.
+#[test]
+fn a_fault_of_the_node_is_not_excused() {
+    let history = format!("{SET_UP}request 0 5 07\ngive 0\nfull 0\ngive 0\nfull 1\nticks 9\n");
+    let mut answers = answers(&history);
+    let last = answers.len() - 1;
+    answers[last] = "9 7:1:5:07".to_string();
+    let svg = picture("history", history.as_bytes(), &answers).expect("a picture");
+    assert!(svg.contains(">differs, though no rule is broken<") && svg.contains("keeps the bench rules"));
 }
 
 #[test]
@@ -101,10 +185,10 @@ fn errors_are_named_by_line() {
     let history = "# a comment\nmodules 2\n\ngive 2\nfull 0\ngive\nmodules 3\n";
     let named: Vec<String> = troubles(history, &answers(history)).iter().map(Trouble::to_string).collect();
     let whole = [
-        "line 4: there is no such module, or no more frames can be given out: give 2",
-        "line 5: there is no such module or frame: full 0",
-        "line 6: can't be read: give",
-        "line 7: a picture shows one bench, and this begins another: modules 3",
+        "line 4: there is no module 2: they are 0 to 1: give 2",
+        "line 5: there is no frame 0: none is given out so far: full 0",
+        "line 6: too few words for `give M`: give",
+        "line 7: a history is of one bench, and this begins another: modules 3",
     ];
     assert_eq!(named, whole);
 }
@@ -114,8 +198,8 @@ fn a_history_needs_modules() {
     let says = |history: &str| troubles(history, &answers(history))[0].to_string();
     assert_eq!(says(""), "there is no line `modules N`");
     assert_eq!(says("# nothing\n"), "there is no line `modules N`");
-    assert_eq!(says("tick\n"), "line 1: can't be read before a line `modules N`: tick");
-    assert_eq!(says("modules 2\r\n"), "line 1: can't be read, for it ends in a carriage return: modules 2\\r");
+    assert_eq!(says("tick\n"), "line 1: no line `modules N` stands before it: tick");
+    assert_eq!(says("modules 2\r\n"), "line 1: it ends in a carriage return: modules 2\\r");
 }
 
 #[test]
@@ -124,9 +208,9 @@ fn answers_that_are_none() {
         let answers: Vec<String> = answers.iter().map(|answer| answer.to_string()).collect();
         troubles("modules 2\ntick\n", &answers)[0].to_string()
     };
-    assert_eq!(says(&["modules 2"]), "line 2: the harness gave no answer to: tick");
-    assert_eq!(says(&["modules 2", "one"]), "line 2: the harness answered one, which is no answer to: tick");
-    assert_eq!(says(&["modules 2", "1 7:5:00"]), "line 2: the answer names a module that is not there");
+    assert_eq!(says(&["modules 2"]), "line 2: the harness gave no answer: tick");
+    assert_eq!(says(&["modules 2", "one"]), "line 2: the harness answered one, which is no answer: tick");
+    assert_eq!(says(&["modules 2", "1 7:5:00"]), "line 2: the answer names a module that is not there: tick");
     assert_eq!(says(&["modules 2", "1", "2"]), "the harness gave 1 more answers than there are lines");
 }
 

@@ -5,12 +5,13 @@ use std::fmt::Write;
 use crate::bench::LOOK_EACH;
 use crate::call_counts::{Call, CallCounts};
 use crate::fault::Fault;
+use crate::fields::{Fields, Unread};
 use crate::lines::Cut;
 use crate::node::{Node, TICK_OUTPUT};
 use crate::receiver::{Did, Happened};
 use crate::reply::{Reply, Tally};
 use crate::settings::Asked;
-use crate::words::{hex, number, number_u16, number_u32, number_u8, payload, put_hex, words};
+use crate::words::{hex, put_hex};
 
 /// What a lent output is filled with before a call.
 const FILL: u8 = 0xee;
@@ -29,19 +30,16 @@ enum Line {
     Tally,
 }
 
-/// The seven numbers of a set up, as both text formats have them.
-pub fn read_asked(words: &[&[u8]]) -> Option<Asked> {
-    let [stream, role, class, rd, dc, ra, dd] = words else {
-        return None;
-    };
-    Some(Asked {
-        stream: number_u32(stream)?,
-        role: number_u8(role)?,
-        class: number_u8(class)?,
-        data_reach: number_u16(rd)?,
-        confirm_delay: number_u16(dc)?,
-        abort_reach: number_u16(ra)?,
-        deliver_delay: number_u16(dd)?,
+/// The seven numbers of a set up from one place on, as both text formats have them.
+pub fn read_asked(fields: &Fields, from: usize) -> Result<Asked, Unread> {
+    Ok(Asked {
+        stream: fields.u32(from)?,
+        role: fields.u8(from + 1)?,
+        class: fields.u8(from + 2)?,
+        data_reach: fields.u16(from + 3)?,
+        confirm_delay: fields.u16(from + 4)?,
+        abort_reach: fields.u16(from + 5)?,
+        deliver_delay: fields.u16(from + 6)?,
     })
 }
 
@@ -50,25 +48,38 @@ pub fn write_asked(asked: &Asked) -> String {
     format!("{stream} {role} {class} {data_reach} {confirm_delay} {abort_reach} {deliver_delay}")
 }
 
-fn read(line: &[u8]) -> Option<Line> {
-    let words = words(line);
-    let output = |word: &[u8]| number(word, OUTPUT_MOST).and_then(|length| usize::try_from(length).ok());
-    match words.as_slice() {
-        [b"node"] => Some(Line::Node),
-        [b"setup", asked @ ..] => Some(Line::SetUp(read_asked(asked)?)),
-        [b"hear", id, dlc, bytes, length] => Some(Line::Hear {
-            id: number_u32(id)?,
-            dlc: number_u8(dlc)?,
-            payload: payload(bytes)?,
-            output: output(length)?,
-        }),
-        [b"tick", length] => Some(Line::Tick { output: output(length)? }),
-        [b"ticks", times] => Some(Line::Ticks { number: number(times, TICKS_MOST)? }),
-        [b"request", stream, bytes] => Some(Line::Request { stream: number_u32(stream)?, payload: payload(bytes)? }),
-        [b"next", length] => Some(Line::Next { output: output(length)? }),
-        [b"tally"] => Some(Line::Tally),
-        _ => None,
-    }
+/// The forms of the lines.
+const FORMS: [&str; 8] = [
+    "node",
+    "setup STREAM ROLE CLASS RD DC RA DD",
+    "hear IDENT DLC PAYLOAD OUT",
+    "tick OUT",
+    "ticks N",
+    "request STREAM PAYLOAD",
+    "next OUT",
+    "tally",
+];
+
+fn read(line: &[u8]) -> Result<Line, Unread> {
+    let fields = Fields::of(line, &FORMS)?;
+    let output = |at: usize| Ok(fields.number(at, OUTPUT_MOST)? as usize);
+    Ok(match fields.verb() {
+        "node" => Line::Node,
+        "setup" => Line::SetUp(read_asked(&fields, 1)?),
+        "hear" => {
+            Line::Hear { id: fields.u32(1)?, dlc: fields.u8(2)?, payload: fields.payload(3)?, output: output(4)? }
+        }
+        "tick" => Line::Tick { output: output(1)? },
+        "ticks" => Line::Ticks { number: fields.number(1, TICKS_MOST)? },
+        "request" => Line::Request { stream: fields.u32(1)?, payload: fields.payload(2)? },
+        "next" => Line::Next { output: output(1)? },
+        _ => Line::Tally,
+    })
+}
+
+/// Why a line can't be read; none if it can.
+pub fn why_unread(line: &[u8]) -> Option<Unread> {
+    read(line).err()
 }
 
 /// One node and its tally; before the first `node` they are fresh.
@@ -95,14 +106,14 @@ impl Calls {
     /// The answer to a line.
     pub fn answer(&mut self, line: &[u8]) -> String {
         match read(line) {
-            Some(Line::Node) => self.start(),
-            Some(line) => {
+            Ok(Line::Node) => self.start(),
+            Ok(line) => {
                 let before = self.node.now();
                 let answer = self.run(line);
                 self.seen.rollovers += self.node.now() / 65_536 - before / 65_536;
                 answer
             }
-            None => self.unreadable(),
+            Err(_) => self.unreadable(),
         }
     }
 

@@ -2,11 +2,11 @@
 
 use std::fmt;
 
-use crate::bench::{Delivery, Outcome};
-use crate::history::{Event, Hearers, Line};
-use crate::ident::{Code, Stream};
-use crate::reply::Reply;
-use crate::settings::{Class, Role, Settings};
+use crate::bench::Outcome;
+use crate::history::{Event, Line};
+use crate::ident::Stream;
+use crate::messages::{Account, Message, Received};
+use crate::settings::{Class, Settings};
 
 /// A history with what was answered to each event.
 #[derive(Clone, Debug, Default)]
@@ -66,137 +66,39 @@ pub struct Looked {
     pub ordered: u64,
 }
 
-/// An accepted request.
-#[derive(Clone, Debug)]
-struct Message {
-    settings: Settings,
-    payload: Vec<u8>,
-    requested: u64,
-    data_full: bool,
-    confirmation_full: bool,
-}
-
-/// A history read for what demand 3 speaks of.
-struct Account<'a> {
-    told: &'a Told,
-    count: u64,
-    messages: Vec<Message>,
-    /// Deliveries with the number of their message, in the order in which they were told.
-    deliveries: Vec<(Delivery, Option<usize>)>,
-    /// The count at which each module died.
-    died: Vec<Option<u64>>,
-}
-
-impl<'a> Account<'a> {
-    fn of(told: &'a Told) -> Account<'a> {
-        let mut account =
-            Account { told, count: 0, messages: Vec::new(), deliveries: Vec::new(), died: vec![None; told.modules] };
-        let mut frames: Vec<(Code, Option<usize>)> = Vec::new();
-        for (event, outcome) in &told.events {
-            match (event, outcome) {
-                (Event::Request { module, stream, payload }, Outcome::Replied(Reply::Done)) => {
-                    let set_up =
-                        told.set_ups.iter().find(|(at, settings)| at == module && settings.stream.0 == *stream);
-                    if let Some((_, settings)) = set_up {
-                        account.messages.push(Message {
-                            settings: *settings,
-                            payload: payload.clone(),
-                            requested: account.count,
-                            data_full: false,
-                            confirmation_full: false,
-                        });
-                    }
-                }
-                (Event::Give { .. }, Outcome::Gave { id, .. }) => {
-                    frames.push((Code::ALL[(id.0 % 4) as usize], account.newest(Stream(id.0 / 4))));
-                }
-                (Event::Send { frame, hearers: Hearers::Full }, Outcome::Heard(_)) => {
-                    if let Some((code, Some(message))) = frames.get(*frame) {
-                        let message = &mut account.messages[*message];
-                        message.data_full |= *code == Code::Data;
-                        message.confirmation_full |= *code == Code::Confirmation;
-                    }
-                }
-                (Event::Death { module }, _) => {
-                    account.died[*module].get_or_insert(account.count);
-                }
-                (_, Outcome::Ticked { count, delivered }) => {
-                    for delivery in delivered {
-                        let message = account.newest(delivery.stream);
-                        account.deliveries.push((delivery.clone(), message));
-                    }
-                    account.count = *count;
-                }
-                _ => {}
-            }
-        }
-        account
-    }
-
-    /// The stream's last accepted request so far.
-    fn newest(&self, stream: Stream) -> Option<usize> {
-        self.messages.iter().rposition(|message| message.settings.stream == stream)
-    }
-
-    fn receivers(&self, stream: Stream) -> impl Iterator<Item = usize> + '_ {
-        let receives = move |settings: &Settings| settings.stream == stream && settings.role == Role::Receive;
-        self.told.set_ups.iter().filter(move |(_, settings)| receives(settings)).map(|(module, _)| *module)
-    }
-
-    fn is_live_at(&self, module: usize, count: u64) -> bool {
-        self.died[module].is_none_or(|died| died >= count)
-    }
-
-    /// The payloads of a stream that a module delivered from the request on, up to the moment of judgement.
-    fn delivered(&self, module: usize, message: &Message) -> Vec<&[u8]> {
-        let moment = message.requested + message.settings.hold() + 1;
-        let ours = |delivery: &Delivery| {
-            delivery.module == module
-                && delivery.stream == message.settings.stream
-                && (message.requested + 1..=moment).contains(&delivery.tick)
-        };
-        self.deliveries.iter().filter(|(delivery, _)| ours(delivery)).map(|(it, _)| it.payload.as_slice()).collect()
-    }
-}
-
 /// All or none, and all if full, of the two-message requests that `judged` lets be judged.
 pub fn check_messages(told: &Told, judged: impl Fn(usize) -> bool, looked: &mut Looked) -> Vec<Failure> {
-    let account = Account::of(told);
     let mut failures = Vec::new();
-    for (number, message) in account.messages.iter().enumerate() {
-        let moment = message.requested + message.settings.hold() + 1;
-        if message.settings.class != Class::TwoMessage || account.count < moment || !judged(number) {
+    for (number, message) in Account::of(told).messages.iter().enumerate() {
+        if message.settings.class != Class::TwoMessage || !message.is_over() || !judged(number) {
             continue;
         }
-        let stream = message.settings.stream;
-        let live: Vec<usize> = account.receivers(stream).filter(|at| account.is_live_at(*at, moment)).collect();
-        let delivered: Vec<Vec<&[u8]>> = live.iter().map(|at| account.delivered(*at, message)).collect();
-        let once = |payloads: &Vec<&[u8]>| payloads.len() == 1 && payloads[0] == message.payload;
-        let all = delivered.iter().all(once);
-        let none = delivered.iter().all(Vec::is_empty);
+        let (all, none, nobody) = (message.is_all(), message.is_none(), message.live().next().is_none());
         let full = message.data_full && message.confirmation_full;
-        looked.nobody += u64::from(live.is_empty());
-        looked.all += u64::from(all && !live.is_empty());
-        looked.none += u64::from(none && !live.is_empty());
+        looked.nobody += u64::from(nobody);
+        looked.all += u64::from(all && !nobody);
+        looked.none += u64::from(none && !nobody);
         looked.full += u64::from(full);
-        let says = || {
-            let counts: Vec<String> =
-                live.iter().zip(&delivered).map(|(at, payloads)| format!("module {at}: {}", payloads.len())).collect();
-            format!(
-                "stream {}, requested at {}, judged at {moment}: deliveries by {}",
-                stream.0,
-                message.requested,
-                counts.join(", ")
-            )
-        };
         if !all && !none {
-            failures.push(Failure { part: Part::AllOrNone, says: says() });
+            failures.push(Failure { part: Part::AllOrNone, says: counts(message) });
         }
         if full && !all {
-            failures.push(Failure { part: Part::AllIfFull, says: says() });
+            failures.push(Failure { part: Part::AllIfFull, says: counts(message) });
         }
     }
     failures
+}
+
+fn counts(message: &Message) -> String {
+    let count = |receiver: &Received| format!("module {}: {}", receiver.module, receiver.delivered.len());
+    let counts: Vec<String> = message.live().map(count).collect();
+    format!(
+        "stream {}, requested at {}, judged at {}: deliveries by {}",
+        message.settings.stream.0,
+        message.requested,
+        message.moment(),
+        counts.join(", ")
+    )
 }
 
 /// Same order: two receivers deliver two 2M messages, whose data each had a full sending, in the same order.

@@ -5,14 +5,16 @@ use std::fmt::Write;
 use crate::bench::{Bench, Delivery, Hearing, Outcome, Step};
 use crate::calls::{read_asked, write_asked};
 use crate::fault::Fault;
+use crate::fields::{Fields, Unread};
 use crate::history::{Event, Hearers, Line};
 use crate::ident::{BusId, Stream};
 use crate::lines::Cut;
 use crate::reply::Reply;
-use crate::words::{hex, number, number_u32, payload, put_hex, words};
+use crate::words::{hex, number, number_u32, payload, put_hex};
 
-/// The most ticks that one line may ask for.
+/// The most ticks that one line may ask for, and the most modules of a bench.
 const TICKS_MOST: u64 = 1_000_000;
+const MODULES_MOST: usize = 8;
 
 /// Empty lines and lines that begin with `#` are skipped.
 pub fn skipped(line: &[u8]) -> bool {
@@ -30,45 +32,77 @@ impl Stand {
     fn of(bench: &Bench) -> Stand {
         Stand { modules: bench.modules().len(), frames: bench.frames().len() }
     }
+
+    fn no_module(self, named: &str) -> String {
+        format!("there is no module {named}: they are 0 to {}", self.modules - 1)
+    }
+
+    fn no_frame(self, named: &str) -> String {
+        match self.frames {
+            0 => format!("there is no frame {named}: none is given out so far"),
+            1 => format!("there is no frame {named}: only frame 0 is given out so far"),
+            frames => format!("there is no frame {named}: given out so far are 0 to {}", frames - 1),
+        }
+    }
 }
 
+/// The forms of the lines.
+const FORMS: [&str; 9] = [
+    "modules N",
+    "setup M STREAM ROLE CLASS RD DC RA DD",
+    "request M STREAM PAYLOAD",
+    "give M",
+    "full F",
+    "short F M ..",
+    "tick",
+    "ticks N",
+    "death M",
+];
+
 /// A line that can be taken where it stands: its modules and frames are there.
-pub fn read_line(line: &[u8], stand: Option<Stand>) -> Option<Line> {
-    let words = words(line);
-    if let [b"modules", count] = words.as_slice() {
-        let count = number(count, 8)?;
-        return (count >= 2).then_some(Line::Modules(count as usize));
+pub fn read_line(line: &[u8], stand: Option<Stand>) -> Result<Line, Unread> {
+    let fields = Fields::of(line, &FORMS)?;
+    if fields.verb() == "modules" {
+        return read_modules(&fields);
     }
-    let stand = stand?;
-    let below = |word: &[u8], count: usize| {
-        let value = usize::try_from(number(word, u64::MAX)?).ok()?;
-        (value < count).then_some(value)
-    };
-    let module = |word: &[u8]| below(word, stand.modules);
-    let frame = |word: &[u8]| below(word, stand.frames);
-    let event = match words.as_slice() {
-        [b"setup", name, asked @ ..] => {
-            return Some(Line::SetUp { module: module(name)?, asked: read_asked(asked)? });
+    let stand = stand.ok_or_else(|| Unread::new("no line `modules N` stands before it"))?;
+    let module = |at: usize| fields.below(at, stand.modules, |named| stand.no_module(named));
+    let frame = |at: usize| fields.below(at, stand.frames, |named| stand.no_frame(named));
+    Ok(Line::Event(match fields.verb() {
+        "setup" => return Ok(Line::SetUp { module: module(1)?, asked: read_asked(&fields, 2)? }),
+        "request" => Event::Request { module: module(1)?, stream: fields.u32(2)?, payload: fields.payload(3)? },
+        "give" => Event::Give { module: module(1)? },
+        "full" => Event::Send { frame: frame(1)?, hearers: Hearers::Full },
+        "short" => {
+            let frame = frame(1)?;
+            let names: Result<Vec<usize>, Unread> = (2..fields.count()).map(module).collect();
+            Event::Send { frame, hearers: Hearers::Short(names?) }
         }
-        [b"request", name, stream, bytes] => {
-            Event::Request { module: module(name)?, stream: number_u32(stream)?, payload: payload(bytes)? }
-        }
-        [b"give", name] => Event::Give { module: module(name)? },
-        [b"full", number] => Event::Send { frame: frame(number)?, hearers: Hearers::Full },
-        [b"short", number, names @ ..] => {
-            let names: Option<Vec<usize>> = names.iter().map(|name| module(name)).collect();
-            Event::Send { frame: frame(number)?, hearers: Hearers::Short(names?) }
-        }
-        [b"tick"] => Event::Tick,
-        [b"ticks", times] => Event::Ticks(number(times, TICKS_MOST)?),
-        [b"death", name] => Event::Death { module: module(name)? },
-        _ => return None,
-    };
-    Some(Line::Event(event))
+        "tick" => Event::Tick,
+        "ticks" => Event::Ticks(fields.number(1, TICKS_MOST)?),
+        _ => Event::Death { module: module(1)? },
+    }))
+}
+
+fn read_modules(fields: &Fields) -> Result<Line, Unread> {
+    let other = |named: &str| format!("there are 2 to 8 modules, and not {named}");
+    match fields.below(1, MODULES_MOST + 1, other)? {
+        few @ (0 | 1) => Err(Unread::new(other(&few.to_string()))),
+        count => Ok(Line::Modules(count)),
+    }
+}
+
+/// Why a line answers `?` where the lines before have made this.
+pub fn why_unread(line: &[u8], stand: Option<Stand>) -> Unread {
+    match read_line(line, stand) {
+        Err(unread) => unread,
+        Ok(Line::Event(Event::Give { .. })) => Unread::new("no more frames can be given out"),
+        Ok(_) => Unread::new("it can't be read"),
+    }
 }
 
 fn read(line: &[u8], bench: Option<&Bench>) -> Option<Line> {
-    read_line(line, bench.map(Stand::of))
+    read_line(line, bench.map(Stand::of)).ok()
 }
 
 /// Whether a line can be read where this bench stands.

@@ -2,8 +2,10 @@
 
 use std::io::{self, BufRead, BufReader, BufWriter, Read, Write};
 
-/// The most bytes of a line that are kept. No line that can be read needs as many.
-pub const LONGEST: usize = 4_096;
+use crate::fields::LINE_MOST;
+
+/// The most bytes of a line that are kept.
+pub const LONGEST: usize = LINE_MOST;
 
 /// A line without its end; `cut` if it was longer than what is kept.
 pub struct Cut<'a> {

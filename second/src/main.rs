@@ -1,13 +1,15 @@
 //! The commands of `second`.
 
-use std::io::{self, Read};
+use std::io::{self, Read, Write};
 use std::path::PathBuf;
 use std::process::ExitCode;
 
 use second::calls::Calls;
+use second::explain::{explain, Format};
 use second::fault::Fault;
 use second::harness::Harness;
 use second::lines::answer_lines;
+use second::pairs::named;
 use second::program::Program;
 use second::{compare_calls, compare_harness, exhaust, judge, mutants};
 
@@ -19,7 +21,12 @@ usage:
   second compare harness --program PATH [--arg WORD]... [--seed S] [--histories N] [--edges]
   second mutants [--seed S] [--calls N] [--histories N]
   second exhaust [--seconds N]
-  second judge                       runs a history of `harness` from standard input and says what it keeps and breaks
+  second explain calls|harness --program PATH [--name NAME]
+                                     hands lines from standard input to a program and its answers on, and says on standard
+                                     error why lines can't be read; NAME is what the input is called
+  second judge [--program PATH] [--name NAME]
+                                     says which bench rules a history of `harness` from standard input keeps and breaks,
+                                     and what became of each message, by the program's answers
   second faults                      lists the faults that can be switched on";
 
 /// The options after the command; each command takes those it knows.
@@ -27,6 +34,7 @@ usage:
 struct Words {
     fault: Option<String>,
     program: Option<String>,
+    name: Option<String>,
     arguments: Vec<String>,
     seed: Option<u64>,
     calls: Option<u64>,
@@ -52,6 +60,7 @@ impl Words {
             match word.as_str() {
                 "--fault" => read.fault = Some(value),
                 "--program" => read.program = Some(value),
+                "--name" => read.name = Some(value),
                 "--arg" => read.arguments.push(value),
                 "--seed" => read.seed = Some(number()?),
                 "--calls" => read.calls = Some(number()?),
@@ -67,6 +76,11 @@ impl Words {
             return Ok(Fault::None);
         };
         Fault::from_name(name).ok_or(format!("no fault is called {name}; see `second faults`"))
+    }
+
+    /// What the input is called.
+    fn name(&self) -> &str {
+        self.name.as_deref().unwrap_or("standard input")
     }
 
     fn program(&self) -> Result<Program, String> {
@@ -122,10 +136,27 @@ fn run(words: &[String]) -> Result<bool, String> {
             let words = Words::read(from(1), &["--seconds"])?;
             Ok(exhaust::run(words.seconds.unwrap_or(60)))
         }
-        ["judge"] => {
+        ["explain", format] => {
+            let format = match *format {
+                "calls" => Format::Calls,
+                "harness" => Format::Harness,
+                other => return Err(format!("{other} is no format: calls and harness are")),
+            };
+            let words = Words::read(from(2), &["--program", "--name"])?;
+            explain(format, &words.program()?, words.name(), io::stdin(), io::stdout().lock())
+        }
+        ["judge", ..] => {
+            let words = Words::read(from(1), &["--program", "--arg", "--name"])?;
             let mut text = Vec::new();
             io::stdin().lock().read_to_end(&mut text).map_err(|error| error.to_string())?;
-            Ok(judge::run(&text))
+            let program = words.program.as_ref().map(|_| words.program()).transpose()?;
+            let said = judge::judge(&text, program.as_ref()).map_err(|troubles| {
+                let says = named(words.name(), &troubles);
+                says.iter().map(|line| format!("judge: {line}")).collect::<Vec<String>>().join("\n")
+            })?;
+            // Whoever reads only the beginning has what it wanted.
+            let _ = io::stdout().write_all(said.text.as_bytes());
+            Ok(said.is_good)
         }
         ["faults"] => {
             for fault in Fault::all() {

@@ -13,7 +13,7 @@ use crate::random::Random;
 use crate::random_calls::damage;
 use crate::random_plans::{plans, set_ups, Plan};
 use crate::reply::{Reply, REPLIES};
-use crate::rules::{Break, Judge, Verdict};
+use crate::rules::{Break, Broken, Judge, Verdict};
 use crate::settings::Asked;
 
 /// How to make histories.
@@ -312,8 +312,10 @@ impl Maker<'_> {
         let event = Event::Ticks(number);
         let (mut bench, mut judge) = (self.bench.clone(), self.judge.clone());
         judge.note(&event, &bench.run(&event));
-        let sinless =
-            judge.broken().iter().all(|broken| self.sins(broken.what) || self.judge.broken().contains(broken));
+        let before = |broken: &Broken| {
+            self.judge.broken().iter().any(|it| (it.what, it.message) == (broken.what, broken.message))
+        };
+        let sinless = judge.broken().iter().all(|broken| self.sins(broken.what) || before(broken));
         self.happens(if sinless { event } else { Event::Ticks(1) });
     }
 

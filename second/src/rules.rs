@@ -75,11 +75,24 @@ impl Break {
     }
 }
 
-/// What was broken, and in which message (accepted requests are numbered from 0) if it concerns one.
+/// What was broken, in which message (accepted requests are numbered from 0) and by which frame (its book's place), where
+/// it concerns one.
 #[derive(Clone, Copy, Debug, PartialEq, Eq, PartialOrd, Ord, Hash)]
 pub struct Broken {
     pub what: Break,
     pub message: Option<usize>,
+    pub book: Option<usize>,
+}
+
+impl Broken {
+    fn here(what: Break) -> Broken {
+        Broken { what, message: None, book: None }
+    }
+
+    /// Whether a message can't be judged for it: two omissions are asked after in that message alone, all else everywhere.
+    pub fn bars(&self, message: usize) -> bool {
+        self.what != Break::TwoOmissions || self.message == Some(message)
+    }
 }
 
 /// The sendings of a frame, as far as a rule reads them.
@@ -173,7 +186,7 @@ impl Judge {
 
     /// Notes a set up that was taken. A refused one is no part of the history.
     pub fn set_up(&mut self, settings: Settings) {
-        let mut broke = |what| self.broken.push(Broken { what, message: None });
+        let mut broke = |what| self.broken.push(Broken::here(what));
         if self.begun {
             broke(Break::LateSettings);
         }
@@ -186,9 +199,9 @@ impl Judge {
         }
     }
 
-    /// The book of a frame that was given out.
-    fn frame(&self, number: usize) -> Option<&Book> {
-        self.books.iter().find(|book| book.given == Some(number))
+    /// The place of the book of a frame that was given out.
+    fn frame(&self, number: usize) -> Option<usize> {
+        self.books.iter().position(|book| book.given == Some(number))
     }
 
     /// The last tick at which a frame may be sent; none for a plain frame and a confirmation whose data was never sent.
@@ -209,14 +222,18 @@ impl Judge {
     pub fn breaks(&self, event: &Event) -> Option<Broken> {
         match event {
             Event::Request { module, .. } | Event::Give { module } | Event::Death { module } => {
-                (!self.live[*module]).then_some(Broken { what: Break::DeadActs, message: None })
+                (!self.live[*module]).then_some(Broken::here(Break::DeadActs))
             }
             Event::Tick | Event::Ticks(_) => None,
             Event::Send { frame, .. } => match self.frame(*frame) {
-                None => Some(Broken { what: Break::NotGivenOut, message: None }),
-                Some(book) => self.sending_breaks(book).map(|what| Broken { what, message: book.message }),
+                None => Some(Broken::here(Break::NotGivenOut)),
+                Some(at) => self.sending_breaks(&self.books[at]).map(|what| self.broken_by(what, at)),
             },
         }
+    }
+
+    fn broken_by(&self, what: Break, at: usize) -> Broken {
+        Broken { what, message: self.books[at].message, book: Some(at) }
     }
 
     fn sending_breaks(&self, book: &Book) -> Option<Break> {
@@ -279,7 +296,8 @@ impl Judge {
             }
             (Event::Send { frame, hearers }, Outcome::Heard(_)) => {
                 let count = self.count;
-                if let Some(book) = self.books.iter_mut().find(|book| book.given == Some(*frame)) {
+                if let Some(at) = self.frame(*frame) {
+                    let book = &mut self.books[at];
                     let first = book.sent.map_or(count, |sent| sent.first);
                     book.sent = Some(Sendings { first, full: *hearers == Hearers::Full });
                 }
@@ -293,7 +311,7 @@ impl Judge {
         }
         for at in self.unsent_at(self.count) {
             self.books[at].missed = true;
-            self.broken.push(Broken { what: Break::Unsent, message: self.books[at].message });
+            self.broken.push(self.broken_by(Break::Unsent, at));
         }
     }
 
@@ -336,15 +354,16 @@ impl Judge {
         let mut broken = self.broken.clone();
         for message in 0..self.messages.len() {
             if self.omissions(message) > 1 {
-                broken.push(Broken { what: Break::TwoOmissions, message: Some(message) });
+                broken.push(Broken { what: Break::TwoOmissions, message: Some(message), book: None });
             }
         }
-        for stream in self.streams.keys() {
-            if self.senders.get(stream) != Some(&1) {
-                broken.push(Broken { what: Break::NotOneSender, message: None });
-            }
-        }
+        broken.extend(self.without_one_sender().iter().map(|_| Broken::here(Break::NotOneSender)));
         Verdict { broken }
+    }
+
+    /// The streams that have not exactly one sender.
+    pub fn without_one_sender(&self) -> Vec<Stream> {
+        self.streams.keys().filter(|stream| self.senders.get(*stream) != Some(&1)).copied().collect()
     }
 }
 
@@ -359,9 +378,9 @@ impl Verdict {
         self.broken.is_empty()
     }
 
-    /// Whether a message may be judged: two omissions are asked after in that message alone, all else everywhere.
+    /// Whether a message may be judged.
     pub fn spares(&self, message: usize) -> bool {
-        self.broken.iter().all(|broken| broken.what == Break::TwoOmissions && broken.message != Some(message))
+        !self.broken.iter().any(|broken| broken.bars(message))
     }
 
     /// Whether one of the rules, 0 for settings, was broken.

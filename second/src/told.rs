@@ -7,6 +7,7 @@ use crate::harness::{read_answer, skipped, write_line, Harness};
 use crate::history::{Event, Line};
 use crate::reply::Reply;
 use crate::rules::{Judge, Verdict};
+use crate::settings::Settings;
 
 /// The answers of this implementation to a script that begins with `modules`.
 pub fn answers(lines: &[Line], fault: Fault) -> Vec<String> {
@@ -45,18 +46,36 @@ pub fn told(lines: &[Line], answers: &[String], fault: Fault) -> Option<Told> {
 
 /// Judges a script that begins with `modules`, as this implementation runs it.
 pub fn judged(lines: &[Line], fault: Fault) -> Verdict {
+    judged_by_line(lines, fault).judge.verdict()
+}
+
+/// The judge after a script, and places of its lines.
+pub struct Judged {
+    pub judge: Judge,
+    /// Where what is broken so far was found.
+    pub broken_at: Vec<usize>,
+    /// Where each message was requested.
+    pub asked_at: Vec<usize>,
+    /// The set ups that were taken.
+    pub set_up_at: Vec<(usize, Settings)>,
+}
+
+/// Judges a script that begins with `modules`, with the places of its lines.
+pub fn judged_by_line(lines: &[Line], fault: Fault) -> Judged {
     let modules = match lines.first() {
         Some(Line::Modules(modules)) => *modules,
         _ => 0,
     };
     let mut bench = Bench::with(modules, fault);
     let mut judge = Judge::new(modules);
-    for line in lines {
+    let (mut broken_at, mut asked_at, mut set_up_at) = (Vec::new(), Vec::new(), Vec::new());
+    for (at, line) in lines.iter().enumerate() {
         match line {
             Line::SetUp { module, asked } => {
                 let taken = bench.set_up(*module, *asked) == Reply::Done;
                 if let (true, Some(settings)) = (taken, asked.tested_by(fault)) {
                     judge.set_up(settings);
+                    set_up_at.push((at, settings));
                 }
             }
             Line::Event(event) => {
@@ -65,8 +84,10 @@ pub fn judged(lines: &[Line], fault: Fault) -> Verdict {
             }
             Line::Modules(_) | Line::Other(_) => {}
         }
+        broken_at.resize(judge.broken().len(), at);
+        asked_at.resize(judge.messages().len(), at);
     }
-    judge.verdict()
+    Judged { judge, broken_at, asked_at, set_up_at }
 }
 
 /// The kept lines of a script, with frames numbered as they are given out now. Sendings of frames that are no longer

@@ -23,14 +23,6 @@ pub fn number(word: &[u8], most: u64) -> Option<u64> {
     (value <= most).then_some(value)
 }
 
-pub fn number_u8(word: &[u8]) -> Option<u8> {
-    number(word, u64::from(u8::MAX)).and_then(|value| u8::try_from(value).ok())
-}
-
-pub fn number_u16(word: &[u8]) -> Option<u16> {
-    number(word, u64::from(u16::MAX)).and_then(|value| u16::try_from(value).ok())
-}
-
 pub fn number_u32(word: &[u8]) -> Option<u32> {
     number(word, u64::from(u32::MAX)).and_then(|value| u32::try_from(value).ok())
 }

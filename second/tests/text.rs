@@ -1,10 +1,11 @@
 //! The text formats: stored examples, and lines and answers there and back.
 
-use second::calls::Calls;
+use second::calls::{why_unread, Calls};
 use second::fault::Fault;
 use second::harness::{read_answer, read_script, write_answer, write_script, Harness};
 use second::history::Line;
 use second::lines::answer_lines;
+use second::pairs::pair;
 use second::random::Random;
 use second::random_histories::{history, Making};
 use second::told::{answers, told};
@@ -83,6 +84,7 @@ fn lines_that_calls_cannot_read() {
                setup 5 0 2 2 3 2 65536\nsetup 5 256 2 2 3 2 6\nnode 1\nNODE\n#\ntick 512\r";
     let bad = format!("{bad}\nrequest 5 {}", "00".repeat(65));
     assert_eq!(calls(&bad), "?\n".repeat(bad.split('\n').count()));
+    assert!(bad.split('\n').all(|line| why_unread(line.as_bytes()).is_some()));
     assert_eq!(calls(""), "");
     assert_eq!(calls(&format!("hear 1 0 {} 16\nnode", "0".repeat(100_000))), "?\nnode\n");
     assert_eq!(calls("tick 1024\nhear 4294967295 255 - 1024").lines().count(), 2);
@@ -140,4 +142,24 @@ fn histories_there_and_back() {
         }
         assert!(made.lines.iter().any(|line| matches!(line, Line::Event(_))));
     }
+}
+
+/// Every line of a random history that is answered by `?` has a reason that can be named.
+#[test]
+fn reasons_for_lines_that_harness_cannot_read() {
+    let mut reasons = std::collections::BTreeSet::new();
+    for number in 0..300 {
+        let making = Making { fault: Fault::None, sinful: true, noise: true, edges: true };
+        let made = history(&mut Random::of(5, number), making);
+        let text = write_script(&made.lines);
+        let answers = answers(&made.lines, Fault::None);
+        let unread = answers.iter().filter(|answer| *answer == "?").count();
+        let says: Vec<String> = match pair(&text, &answers) {
+            Ok(_) => Vec::new(),
+            Err(troubles) => troubles.iter().map(|trouble| trouble.says.clone()).collect(),
+        };
+        assert_eq!(says.len(), unread);
+        reasons.extend(says.iter().filter_map(|says| Some(says.split_once(": ")?.0.to_string())));
+    }
+    assert!(reasons.len() > 10 && !reasons.contains("it can't be read"), "{reasons:?}");
 }

@@ -6,12 +6,15 @@ pub mod StreamSeen
 pub mod SeenAfterOwnEvent
 pub mod SeenAfterGivingOut
 pub mod SeenAfterOtherEvent
+pub mod PayloadKept
 pub mod RulesSeen
 pub mod MessageKept
 pub mod KeptByGivingOut
 pub mod RequestOpens
 pub mod ThroughHistory
+pub mod NewestData
 pub mod Judgement
 pub mod PlanGives
 pub mod AcceptedRequest
 pub mod OmissionsStay
+pub mod MessageOfHistory

@@ -4,6 +4,7 @@ use mathlib.Core.Path.{_≡_}
 use mathlib.Core.Bool.{true}
 use mathlib.Core.List.{List, [], _∷_, _++_, map}
 use Rattle.wire.specs.declared.ids.Stream.{Stream}
+use Rattle.wire.specs.Settings.{ofTwoMessage}
 use Rattle.bench.specs.Bench.{Delivery, Module, Bench, thePayload, theConfirmation, theAbort}
 use Rattle.bench.specs.SetUp.{Entry, Plan, proper, start}
 use Rattle.bench.specs.Events.{Event, asks, gives, sends, ticks, dies, all, only, run}
@@ -15,7 +16,7 @@ five = record { 0 = 5 }
 
 -- 2M: data reach, confirm delay, abort reach, deliver delay
 abbrev pub twoM : Stream → (rd dc ra dd role : ℕ) → Entry
-twoM s rd dc ra dd role = record { stream = s; settings = record { rd = rd; dc = dc; ra = ra; dd = dd; role = role; class = 2 } }
+twoM s rd dc ra dd role = record { stream = s; settings = ofTwoMessage role rd dc ra dd }
 
 abbrev pub three : Plan
 three = (twoM five 2 3 2 6 1 ∷ []) ∷ (twoM five 2 3 2 6 0 ∷ []) ∷ (twoM five 2 3 2 6 0 ∷ []) ∷ []

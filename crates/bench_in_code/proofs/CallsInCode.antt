@@ -13,7 +13,7 @@ use Rattle.wire.specs.Delivered.{over}
 use Rattle.node.specs.declared.Answered.{Answered}
 use Rattle.node.specs.declared.Delivered.{Delivered}
 use Rattle.node.specs.declared.Given.{Given}
-use Rattle.node.specs.Nodes.{answered, delivered, given}
+use Rattle.node.specs.Nodes.{asAnswered, asDelivered, asGiven}
 use Rattle.node.specs.Clock.{rolled}
 use Rattle.node.specs.Calls.{Call, outcome, tick, hear}
 use Rattle.bench_in_code.specs.declared.stations.Station.{Station}
@@ -54,12 +54,12 @@ module _ (b : Bench) (eight : length (b .modules) ≡ 8) (who : ℕ) where
 
     -- a call on its node
     pub answers-there : (there : Bool) → there ≡ true → (c : Call) (a : Answered)
-        → a ≡ answered (outcome rolled c (getD (b .modules) who d .node)) → (m : Station)
+        → a ≡ asAnswered (outcome rolled c (getD (b .modules) who d .node)) → (m : Station)
         → m ≡ kept (withNode (a .node) (shown (getD (b .modules) who d)))
         → record { bench = record { modules = set (b .modules) who m }; there = true; reply = a .reply } ≡ asked there c who b
     unfolding asked
     answers-there there t c a e m e′ =
-        let a-is : a ≡ answered (callIn c who b) = e ∙ ap (λ (m : Station). answered (outcome rolled c (m .node))) read-is in
+        let a-is : a ≡ asAnswered (callIn c who b) = e ∙ ap (λ (m : Station). asAnswered (outcome rolled c (m .node))) read-is in
         let bench = stored (withNode (a .node)) m e′ in
         rw (t, bench, a-is)
 
@@ -73,7 +73,7 @@ pub dead-at-tick : (m : Station) → m .live ≡ false → record { after = m; s
 dead-at-tick m e = rw e
 
 pub live-at-tick : (m : Station) → m .live ≡ true → (a : Delivered) (out : List ℕ)
-    → a ≡ delivered (outcome rolled (tick lent) (m .node)) → out ≡ over (outcome rolled (tick lent) (m .node) .bytes) lent
+    → a ≡ asDelivered (outcome rolled (tick lent) (m .node)) → out ≡ over (outcome rolled (tick lent) (m .node) .bytes) lent
     → answeredTurn a out m ≡ tickTurn m
 live-at-tick m e a out a-is out-is = rw (a-is, out-is, e)
 
@@ -82,7 +82,7 @@ module _ (named own : Bool) (f : Frame) (m : Station) where
   not-reached e = rw e
 
   pub reached : (m .live && named && not own) ≡ true → (a : Delivered) (out : List ℕ) (n : ℕ) (p : List ℕ) → n ≡ length p → p ≡ payloadOf f
-      → a ≡ delivered (outcome rolled (hear (f .id) n p lent) (m .node)) → out ≡ over (outcome rolled (hear (f .id) n p lent) (m .node) .bytes) lent
+      → a ≡ asDelivered (outcome rolled (hear (f .id) n p lent) (m .node)) → out ≡ over (outcome rolled (hear (f .id) n p lent) (m .node) .bytes) lent
       → answeredTurn a out m ≡ hearTurn named own f m
   reached e a out n p n-is p-is a-is out-is = rw (a-is, out-is, n-is, p-is, e)
 
@@ -99,9 +99,9 @@ module _ (b : Bench) (eight : length (b .modules) ≡ 8) (who : ℕ) (fs : Frame
   dead-gives-nothing e = rw e
 
   module _ (live : isLiveIn who b ≡ true) (inside : who < 8) (d : Station) (a : Given)
-      (a-is : a ≡ given (outcome rolled next (getD (b .modules) who d .node))) where
-    by-outcome : a ≡ given (callIn next who b)
-    by-outcome = a-is ∙ ap (λ (m : Station). given (outcome rolled next (m .node))) (read-is b eight who inside d)
+      (a-is : a ≡ asGiven (outcome rolled next (getD (b .modules) who d .node))) where
+    by-outcome : a ≡ asGiven (callIn next who b)
+    by-outcome = a-is ∙ ap (λ (m : Station). asGiven (outcome rolled next (m .node))) (read-is b eight who inside d)
 
     is-done : (t : Bool) → isDone (a .reply) ≡ t → isDone (callIn next who b .reply) ≡ t
     is-done t e = ap (λ (g : Given). isDone (g .reply)) (sym by-outcome) ∙ e

@@ -14,11 +14,12 @@ use Rattle.bench_in_code.specs.declared.outbox.Frames.{Frames}
 use Rattle.bench_in_code.specs.declared.Bench as coded
 use Rattle.bench.specs.SetUp.{Plan, allEntries, proper, start}
 use Rattle.bench.specs.Bench.{Bench, Frame, Which, isLive, bookOf, frameOf, ownerOf}
-use Rattle.bench.specs.Events.{Event, asks, gives, sends, ticks, dies, To, step, isNext}
+use Rattle.bench.specs.Events.{Event, asks, gives, sends, ticks, dies, To, step, run, isNext}
 use Rattle.bench.specs.Rules.{one, wasFull, rule1, rule3, may, keepsSoFar}
 use Rattle.bench_in_code.specs.InCode.{capacity, noFrame, frameIn, withFrame, givingOf}
 use Rattle.bench_in_code.specs.InStep.{InStep, placesOf}
-use Rattle.bench_in_code.specs.Runs.{Coded, Command, request, give, send, tick, death, withBench, after, answer, ruled, Does, asking, giving, sending, ticking, dying}
+use Rattle.bench_in_code.specs.Runs.{Coded, Command, request, give, send, tick, death, withBench, after, answer, ruled}
+use Rattle.bench_in_code.specs.Runs.{Does, asking, giving, sending, ticking, dying}
 use Rattle.bench_in_code.specs.Runs.{Runs, no-more, then, Agrees, givesOut, giveOuts, SetUps, ready, Allowed, EveryHistoryRuns, EveryRunAgrees}
 use Rattle.bench.proofs.laws.FramesOfBooks.{AllBooks, EveryBook}
 use Rattle.bench.proofs.message.PlanGives.{no-books}

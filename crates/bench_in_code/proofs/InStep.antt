@@ -141,7 +141,8 @@ next-live b i z c is-next =
 
 -- ── the bench ──
 -- what the turn at a place leaves
-turn-at : (turn : ℕ → Station → Turn) (i : ℕ) (k : coded.Bench) → nth (turn i nobody .after) i (afterTurns (turnsOf turn k) .modules) ≡ turn i (moduleIn i k) .after
+turn-at : (turn : ℕ → Station → Turn) (i : ℕ) (k : coded.Bench)
+    → nth (turn i nobody .after) i (afterTurns (turnsOf turn k) .modules) ≡ turn i (moduleIn i k) .after
 turn-at turn i k =
     ap (nth (turn i nobody .after) i) (map-each (λ (t : Turn). t .after) turn 0 (k .modules))
     ∙ nth-each nobody (λ j x. turn j x .after) i 0 i (k .modules) (zero-add i)

@@ -5,3 +5,4 @@ pub mod InStep
 pub mod SetUpInStep
 pub mod OutboxKeepsFrames
 pub mod EveryHistoryRuns
+pub mod BusyDayRuns

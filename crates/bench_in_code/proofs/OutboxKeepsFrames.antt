@@ -11,10 +11,10 @@ use borrow.Author.Tests.{lt-ltb, eq-eqb, ne-eqb}
 use Rattle.wire.specs.declared.ids.Stream.{Stream}
 use Rattle.bench_in_code.specs.declared.outbox.Frame as kept-frame
 use Rattle.bench_in_code.specs.declared.outbox.Frames.{Frames}
-use Rattle.bench.specs.Lists.{nth, at}
-use Rattle.bench.specs.SetUp.{Plan, proper, start}
-use Rattle.bench.specs.Bench.{Bench, Book, Frame, Moment, Which, thePayload, theConfirmation, theAbort, noBook, booksOf, bookOf, now, frameOf, ownerOf}
-use Rattle.bench.specs.Events.{Event, asks, gives, sends, ticks, dies, step, isNext, onFrame, whichOf, gaveOut, sentOnce, isFull, next}
+use Rattle.bench.specs.Lists.{nth}
+use Rattle.bench.specs.SetUp.{Plan, proper}
+use Rattle.bench.specs.Bench.{Bench, Book, Frame, Moment, Which, thePayload, theConfirmation, theAbort, noBook, booksOf, now, frameOf, ownerOf}
+use Rattle.bench.specs.Events.{Event, asks, gives, sends, ticks, dies, step, onFrame, whichOf, gaveOut, sentOnce, isFull, next}
 use Rattle.bench_in_code.specs.InCode.{noFrame, capacity, frameIn, withFrame}
 use Rattle.bench_in_code.specs.InStep.{SameFrame, KeptAs}
 use Rattle.bench_in_code.specs.Runs.{AllKept}

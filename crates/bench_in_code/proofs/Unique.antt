@@ -1,5 +1,6 @@
 -- Every promise of the bench in code is met by one answer only.
-use Rattle.wire.proofs.Unique.{OneAnswer, same}
+use Rattle.wire.specs.Uniqueness.{OneAnswer}
+use Rattle.wire.proofs.Unique.{same}
 use Rattle.bench_in_code.proofs.Bench.of.Reads as of
 use Rattle.bench_in_code.proofs.Bench.is_live.Reads as is-live
 use Rattle.bench_in_code.proofs.Bench.set_up.Reads as set-up

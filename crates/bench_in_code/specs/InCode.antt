@@ -6,8 +6,6 @@ use mathlib.Core.Bool.{Bool, true, false, not, cond, _&&_}
 use mathlib.Core.List.{List, [], _∷_, map}
 use lib.ListN.{length, replicate, take, getD, set}
 use lib.Dec.{eqb, leb, ltb}
-use Rattle.wire.specs.declared.ids.Stream.{Stream}
-use Rattle.wire.specs.declared.reply.Reply.{Reply}
 use Rattle.wire.specs.declared.reply.Reply.the-variants.{Done}
 use Rattle.wire.specs.Frames.{maxPayload}
 use Rattle.wire.specs.Delivered.{over}
@@ -30,7 +28,7 @@ use Rattle.bench_in_code.specs.declared.Gave.{Gave}
 use Rattle.bench.specs.Lists.{nth, at, each}
 use Rattle.bench.specs.SetUp.{isDone}
 use Rattle.bench.specs.Bench.{Frame, never, Module}
-use Rattle.bench.specs.Events.{lent, call, withNode, heard, hearsWhere, ticked, dead}
+use Rattle.bench.specs.Events.{lent, call, withNode, heard, hearsWhere, ticked}
 
 -- ── a module ──
 abbrev pub atStart : (live : Bool) → Station

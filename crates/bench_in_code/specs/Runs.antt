@@ -26,7 +26,7 @@ use Rattle.bench.specs.Lists.{at, every}
 use Rattle.bench.specs.Bench.{Bench, Delivery, Which, moduleAt, isLive, bookOf, frameOf, ownerOf}
 use Rattle.bench.specs.SetUp.{Entry, Part, Plan, isDone, proper, start}
 use Rattle.bench.specs.Events as rules
-use Rattle.bench.specs.Events.{To, named, Event, asks, gives, sends, ticks, dies, step, run, lent, call, dead, heard, atOnce, deliveries, next}
+use Rattle.bench.specs.Events.{To, named, Event, asks, gives, sends, ticks, dies, step, run, lent, dead, heard, atOnce, deliveries, next}
 use Rattle.bench.specs.Rules.{one, keepsSoFar}
 use Rattle.bench_in_code.specs.InCode.{silence, payloadOf, capacity, noFrames, frameIn, placeCount, places, benchOf, isLiveIn, onModule, asked}
 use Rattle.bench_in_code.specs.InCode.{tickOf, sendingOf, givingOf}
@@ -66,7 +66,8 @@ after (send n to) x = withBench (sendOf n to x .bench) x
 after tick x = withBench (tickOf (x .bench) .bench) x
 after (death i) x = withBench (onModule dead i (x .bench)) x
 
--- a reply, the frame that is given out, or what each place says; where nobody is there to do it, or there is no frame, nothing
+-- a reply, the frame that is given out, or what each place says. Nothing, where the module is not live, where it has no frame to give
+-- out or there is no room for it, and at a death.
 pub data Answer : Type 0 where
   replied : Reply → Answer
   gave : BusId → (payload : List ℕ) → Answer
@@ -107,7 +108,7 @@ ruled b ticks = said (map (λ i. cond (isLive i b) (says Done (deliveries unboun
 ruled b (dies i) = nothing
 
 -- ── runs ──
--- the command is what the event asks for; a sending names a frame that is kept, and it is the one of the event's book
+-- the command does what the event says; a sending names the number of a frame that is kept, and it is the frame of the event's book
 pub data Does (b : Bench) (x : Coded) : Event → Command → Type 0 where
   asking : (i : ℕ) (z : Stream) (p : List ℕ) → Does b x (asks i z p) (request i z p)
   giving : (i : ℕ) (z : Stream) (c : ℕ) → Does b x (gives i z c) (give i)
@@ -117,7 +118,7 @@ pub data Does (b : Bench) (x : Coded) : Event → Command → Type 0 where
   ticking : Does b x ticks tick
   dying : (i : ℕ) → Does b x (dies i) (death i)
 
--- a history by these commands, one for each event
+-- a history is run by these commands, one for each event
 pub data Runs : Bench → Coded → List Event → List Command → Type 0 where
   no-more : {b : Bench} {x : Coded} → Runs b x [] []
   then : {b : Bench} {x : Coded} {e : Event} {h : List Event} {c : Command} {cs : List Command}
@@ -142,7 +143,8 @@ AllKept b fs =
     (z : Stream) (message : ℕ) (w : Which) → T (frameOf w (bookOf z message b) .given)
     → (n : ℕ) × KeptAs n fs (ownerOf w (bookOf z message b)) (frameOf w (bookOf z message b))
 
--- the answers are those of the rules; and in the end the two are in step, and what was given out is kept
+-- The answers are those of the rules; and in the end the two are in step, and what was given out is kept. A run up to any event is a
+-- run too, so this holds at every event.
 pub record Agrees (b : Bench) (x : Coded) (h : List Event) (cs : List Command) : Type 0 where
   pub same-answers : answers x cs ≡ ruledAll b h
   pub in-step : InStep (run b h) (afterAll x cs .bench)
@@ -182,10 +184,11 @@ abbrev pub ready : ℕ → SetUps → Coded
 ready n xs = record { bench = afterSetUps xs (benchOf n); outbox = noFrames }
 
 -- ── the statements ──
+-- there are set ups for every plan
 abbrev pub EveryPlanIsSetUp : Type 0
 EveryPlanIsSetUp = (plan : Plan) → (xs : SetUps) × SetsUp xs plan
 
--- in code every set up of a proper plan is accepted
+-- where the plan is proper, the code accepts each of them
 abbrev pub EverySetUpIsDone : Type 0
 EverySetUpIsDone = (plan : Plan) (xs : SetUps) → T (proper plan) → SetsUp xs plan → T (every isDone (setUpReplies xs (benchOf (length plan))))
 
@@ -207,10 +210,12 @@ pub record Allowed (plan : Plan) (xs : SetUps) (h : List Event) : Type 0 where
   pub keeps-rules : T (keepsSoFar (start plan) h)
   pub enough-room : giveOuts h ≤ capacity
 
+-- EVERY HISTORY RUNS: by sendings of frames that are kept, named by number
 abbrev pub EveryHistoryRuns : Type 0
 EveryHistoryRuns =
     (plan : Plan) (xs : SetUps) (h : List Event) → Allowed plan xs h → (cs : List Command) × Runs (start plan) (ready (length plan) xs) h cs
 
+-- EVERY RUN AGREES with the rules, whichever numbers of the frame it names
 abbrev pub EveryRunAgrees : Type 0
 EveryRunAgrees =
     (plan : Plan) (xs : SetUps) (h : List Event) → Allowed plan xs h

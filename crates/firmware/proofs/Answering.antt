@@ -5,9 +5,6 @@ use Rattle.wire.specs.Replies.{numberOf}
 use Rattle.node.specs.declared.Answered.{Answered}
 use Rattle.node.specs.declared.Delivered.{Delivered}
 use Rattle.node.specs.declared.Given.{Given}
-use Rattle.firmware.specs.declared.calls.AnsweredC.{AnsweredC}
-use Rattle.firmware.specs.declared.calls.DeliveredC.{DeliveredC}
-use Rattle.firmware.specs.declared.calls.GivenC.{GivenC}
 use Rattle.firmware.specs.Answers.{answeredC, deliveredC, givenC}
 
 pub asAnsweredC : (a b : Answered) (n : ℕ) → n ≡ numberOf (a .reply) → a ≡ b → record { node = a .node; reply = n } ≡ answeredC b

@@ -2,3 +2,4 @@
 pub mod Answering
 pub mod Refusals
 pub mod Unique
+pub mod Histories

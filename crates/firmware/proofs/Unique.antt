@@ -1,6 +1,7 @@
 -- Every promise of the C boundary is met by one answer only, and leaves a lent output one content only.
 use denote.Ref.{now}
-use Rattle.wire.proofs.Unique.{OneAnswer, OneContent, same}
+use Rattle.wire.specs.Uniqueness.{OneAnswer, OneContent}
+use Rattle.wire.proofs.Unique.{same}
 use Rattle.firmware.proofs.calls.kosmydore_fresh.Reads as fresh
 use Rattle.firmware.proofs.calls.kosmydore_set_up.Reads as set-up
 use Rattle.firmware.proofs.calls.kosmydore_hear.Reads as hear

@@ -1,3 +1,4 @@
 -- The definitions that the promises of firmware cite, beside those of wire and node.
 pub mod Boundary
 pub mod Answers
+pub mod Histories

@@ -5,7 +5,7 @@ use wire::ids::Stream;
 use wire::settings::Settings;
 ghost use mathlib.Core.Path.{_≡_};
 ghost use Rattle.wire.specs.Delivered.{over};
-ghost use Rattle.node.specs.Nodes.{fresh, answered, delivered, given};
+ghost use Rattle.node.specs.Nodes.{fresh, asAnswered, asDelivered, asGiven};
 ghost use Rattle.node.specs.Clock.{rolled};
 ghost use Rattle.node.specs.SetUp.{setUp};
 ghost use Rattle.node.specs.Hear.{hear};
@@ -47,7 +47,7 @@ pub extern "C" fn kosmydore_fresh() -> Node
 
 #[no_mangle]
 pub extern "C" fn kosmydore_set_up(node: Node, stream: u32, settings: Settings) -> AnsweredC
-    ensures { λ r. ⌜ r ≡ answeredC (answered (setUp (record { 0 = stream }) settings node)) ⌝ }
+    ensures { λ r. ⌜ r ≡ answeredC (asAnswered (setUp (record { 0 = stream }) settings node)) ⌝ }
 {
     let answer = node.set_up(Stream(stream), settings);
     let after = answer.node;
@@ -66,7 +66,7 @@ pub extern "C" fn kosmydore_hear(
     payload: &[u8],
     out: &mut [u8],
 ) -> DeliveredC
-    ensures { λ r. ⌜ (r ≡ deliveredC (delivered (hear (record { 0 = id }) dlc (now (payload .entry)) (now (out .entry)) node)))
+    ensures { λ r. ⌜ (r ≡ deliveredC (asDelivered (hear (record { 0 = id }) dlc (now (payload .entry)) (now (out .entry)) node)))
         × (now (out .exit) ≡ over (hear (record { 0 = id }) dlc (now (payload .entry)) (now (out .entry)) node .bytes) (now (out .entry))) ⌝ }
 {
     let answer = node.hear(BusId(id), dlc, payload, out);
@@ -81,7 +81,7 @@ pub extern "C" fn kosmydore_hear(
 
 #[no_mangle]
 pub extern "C" fn kosmydore_tick(node: Node, out: &mut [u8]) -> DeliveredC
-    ensures { λ r. ⌜ (r ≡ deliveredC (delivered (tick rolled (now (out .entry)) node)))
+    ensures { λ r. ⌜ (r ≡ deliveredC (asDelivered (tick rolled (now (out .entry)) node)))
         × (now (out .exit) ≡ over (tick rolled (now (out .entry)) node .bytes) (now (out .entry))) ⌝ }
 {
     let answer = node.tick(out);
@@ -96,7 +96,7 @@ pub extern "C" fn kosmydore_tick(node: Node, out: &mut [u8]) -> DeliveredC
 
 #[no_mangle]
 pub extern "C" fn kosmydore_request(node: Node, stream: u32, payload: &[u8]) -> AnsweredC
-    ensures { λ r. ⌜ r ≡ answeredC (answered (request (record { 0 = stream }) (now (payload .entry)) node)) ⌝ }
+    ensures { λ r. ⌜ r ≡ answeredC (asAnswered (request (record { 0 = stream }) (now (payload .entry)) node)) ⌝ }
 {
     let answer = node.request(Stream(stream), payload);
     let after = answer.node;
@@ -109,7 +109,7 @@ pub extern "C" fn kosmydore_request(node: Node, stream: u32, payload: &[u8]) -> 
 
 #[no_mangle]
 pub extern "C" fn kosmydore_next_frame(node: Node, out: &mut [u8]) -> GivenC
-    ensures { λ r. ⌜ (r ≡ givenC (given (nextFrame (now (out .entry)) node)))
+    ensures { λ r. ⌜ (r ≡ givenC (asGiven (nextFrame (now (out .entry)) node)))
         × (now (out .exit) ≡ over (nextFrame (now (out .entry)) node .bytes) (now (out .entry))) ⌝ }
 {
     let answer = node.next_frame(out);

@@ -12,7 +12,7 @@ use borrow.Author.Tests.{ltb-true, ltb-false, eqb-true, eqb-false, eq-eqb, ne-eq
 use Rattle.wire.specs.declared.reply.Reply.{Reply}
 use Rattle.wire.specs.Replies.{numberOf}
 use Rattle.module.specs.declared.tally.Tally.{Tally}
-use Rattle.module.specs.Tallies.{counted, position, placeOf, most, none, countOf, tallied, talliedAll, occurrences, capped, tallyOf}
+use Rattle.module.specs.Tallies.{counted, position, placeOf, most, zeroTally, countOf, tallied, talliedAll, occurrences, capped, tallyOf}
 use Rattle.module.proofs.Places.{has-place, own-number}
 
 -- ── a list of counts, one for each of some numbers ──
@@ -122,9 +122,9 @@ counts-from before (x ∷ rs) =
     ∙ (counts-from (before ++ x ∷ []) rs ∙ ap tallyOf (append-assoc before (x ∷ []) rs))
 
 -- whatever the replies and their order
-pub counts-replies : (rs : List Reply) → talliedAll none rs ≡ tallyOf rs
+pub counts-replies : (rs : List Reply) → talliedAll zeroTally rs ≡ tallyOf rs
 counts-replies rs = counts-from [] rs
 
 -- and so at each reply's own place
-pub count-of-reply : (rs : List Reply) (r : Reply) → countOf r (talliedAll none rs) ≡ capped (occurrences (numberOf r) rs)
+pub count-of-reply : (rs : List Reply) (r : Reply) → countOf r (talliedAll zeroTally rs) ≡ capped (occurrences (numberOf r) rs)
 count-of-reply rs r = rw (counts-replies rs) (own-count rs r)

@@ -25,29 +25,29 @@ use Rattle.node.proofs.request.Cases.{request-cases}
 use Rattle.node.proofs.rollover.SameAnswers.{same-answers}
 use Rattle.module.specs.declared.tally.Tally.{Tally}
 use Rattle.module.specs.Tallies.{talliedAll, tallyOf}
-use Rattle.module.specs.Histories.{Module, freshModule, moduleStep, moduleAfterFrom, moduleAfter, repliesIn}
-use Rattle.module.specs.Histories.{Returned, Left, Promised, nodeIn, seen, Run, start, next}
+use Rattle.module.specs.Histories.{Counting, freshCounting, countingStep, countingAfterFrom, countingAfter, repliesIn}
+use Rattle.module.specs.Histories.{Returned, Left, Promised, nodeIn, seen, Run, start, next, EveryHistory}
 use Rattle.module.proofs.Counts.{counts-replies}
 
 -- ── the definition of a module ──
-node-from : (m : Module) (calls : List Call) → moduleAfterFrom m calls .node ≡ afterFrom rolled (m .node) calls
+node-from : (m : Counting) (calls : List Call) → countingAfterFrom m calls .node ≡ afterFrom rolled (m .node) calls
 node-from m [] = refl
-node-from m (c ∷ cs) = node-from (moduleStep c m) cs
+node-from m (c ∷ cs) = node-from (countingStep c m) cs
 
-tally-from : (m : Module) (calls : List Call) → moduleAfterFrom m calls .tally ≡ talliedAll (m .tally) (repliesIn (answersFrom rolled (m .node) calls))
+tally-from : (m : Counting) (calls : List Call) → countingAfterFrom m calls .tally ≡ talliedAll (m .tally) (repliesIn (answersFrom rolled (m .node) calls))
 tally-from m [] = refl
-tally-from m (c ∷ cs) = tally-from (moduleStep c m) cs
+tally-from m (c ∷ cs) = tally-from (countingStep c m) cs
 
 -- its node is the node after these calls
-pub module-node : (calls : List Call) → moduleAfter calls .node ≡ after rolled calls
-module-node calls = node-from freshModule calls
+pub module-node : (calls : List Call) → countingAfter calls .node ≡ after rolled calls
+module-node calls = node-from freshCounting calls
 
 -- its tally is that of the replies in the history
-pub module-tally : (calls : List Call) → moduleAfter calls .tally ≡ tallyOf (repliesIn (answers rolled calls))
-module-tally calls = tally-from freshModule calls ∙ counts-replies (repliesIn (answers rolled calls))
+pub module-tally : (calls : List Call) → countingAfter calls .tally ≡ tallyOf (repliesIn (answers rolled calls))
+module-tally calls = tally-from freshCounting calls ∙ counts-replies (repliesIn (answers rolled calls))
 
 -- and so with counts of ticks without bound
-pub module-tally-unbounded : (calls : List Call) → moduleAfter calls .tally ≡ tallyOf (repliesIn (answers unbounded calls))
+pub module-tally-unbounded : (calls : List Call) → countingAfter calls .tally ≡ tallyOf (repliesIn (answers unbounded calls))
 module-tally-unbounded calls = module-tally calls ∙ ap (λ (xs : List Answer). tallyOf (repliesIn xs)) (same-answers calls)
 
 -- ── what a call that keeps its promise does ──
@@ -80,7 +80,7 @@ answer-is : (o : Outcome) {id : BusId} {bytes : List ℕ} → o .id ≡ id → b
 answer-is o e f = rw (← e, f)
 
 -- what is seen of it is the definition's answer
-pub answers-so : (c : Call) (m : Module) (r : Returned c) (left : Left c) (t : Tally) → Promised c m r left t
+pub answers-so : (c : Call) (m : Counting) (r : Returned c) (left : Left c) (t : Tally) → Promised c m r left t
     → seen c r left ≡ answerOf (outcome rolled c (m .node))
 answers-so (setUp s settings) m r left t p =
     let o = set-up.setUp s settings (m .node) in
@@ -98,8 +98,8 @@ answers-so (nextFrame output) m r left t p =
     let o = giving.nextFrame output (m .node) in rw (p .0, p .1) (answer-is o refl (front (o .bytes) output))
 
 -- and it makes a step of the definition
-pub steps-so : (c : Call) (m : Module) (r : Returned c) (left : Left c) (t : Tally) → Promised c m r left t
-    → _≡_ {A = Module} (record { node = nodeIn c r; tally = t }) (moduleStep c m)
+pub steps-so : (c : Call) (m : Counting) (r : Returned c) (left : Left c) (t : Tally) → Promised c m r left t
+    → _≡_ {A = Counting} (record { node = nodeIn c r; tally = t }) (countingStep c m)
 steps-so (setUp s settings) m r left t p = rw (p .0, p .1)
 steps-so (hear id dlc payload output) m r left t p = rw (p .0, p .2)
 steps-so (tick output) m r left t p = rw (p .0, p .2)
@@ -107,30 +107,23 @@ steps-so (request s payload) m r left t p = rw (p .0, p .1)
 steps-so (nextFrame output) m r left t p = rw (p .0, p .2)
 
 -- ── every run ──
-run-answers : {m end : Module} {calls : List Call} {xs : List Answer} → Run m calls xs end → xs ≡ answersFrom rolled (m .node) calls
+run-answers : {m end : Counting} {calls : List Call} {xs : List Answer} → Run m calls xs end → xs ≡ answersFrom rolled (m .node) calls
 run-answers start = refl
 run-answers {m} (next {cs = cs} c r left t p rest) =
     rw (answers-so c m r left t p)
     (ap (λ (l : List Answer). answerOf (outcome rolled c (m .node)) ∷ l)
-    (run-answers rest ∙ ap (λ (n : Module). answersFrom rolled (n .node) cs) (steps-so c m r left t p)))
+    (run-answers rest ∙ ap (λ (n : Counting). answersFrom rolled (n .node) cs) (steps-so c m r left t p)))
 
-run-end : {m end : Module} {calls : List Call} {xs : List Answer} → Run m calls xs end → end ≡ moduleAfterFrom m calls
+run-end : {m end : Counting} {calls : List Call} {xs : List Answer} → Run m calls xs end → end ≡ countingAfterFrom m calls
 run-end start = refl
-run-end {m} (next {cs = cs} c r left t p rest) = run-end rest ∙ ap (λ (n : Module). moduleAfterFrom n cs) (steps-so c m r left t p)
+run-end {m} (next {cs = cs} c r left t p rest) = run-end rest ∙ ap (λ (n : Counting). countingAfterFrom n cs) (steps-so c m r left t p)
 
--- From the fresh node and the zero tally: what was seen is what the definition says, with ticks counted without bound; the node is
--- the definition's; and the tally is that of the replies that were seen.
-pub record Faithful (calls : List Call) (xs : List Answer) (end : Module) : Type 0 where
-  pub answered : xs ≡ answers unbounded calls
-  pub node : end .node ≡ after rolled calls
-  pub counted : end .tally ≡ tallyOf (repliesIn xs)
-
-pub every-history : {calls : List Call} {xs : List Answer} {end : Module} → Run freshModule calls xs end → Faithful calls xs end
-every-history {calls} {xs} {end} run =
+pub every-history : EveryHistory
+every-history calls xs end run =
     let saw : xs ≡ answers rolled calls = run-answers run in
-    let ends : end ≡ moduleAfter calls = run-end run in
+    let ends : end ≡ countingAfter calls = run-end run in
     record {
       answered = saw ∙ same-answers calls;
-      node = ap (λ (m : Module). m .node) ends ∙ module-node calls;
-      counted = ap (λ (m : Module). m .tally) ends ∙ (module-tally calls ∙ ap (λ (l : List Answer). tallyOf (repliesIn l)) (sym saw));
+      node = ap (λ (m : Counting). m .node) ends ∙ module-node calls;
+      counted = ap (λ (m : Counting). m .tally) ends ∙ (module-tally calls ∙ ap (λ (l : List Answer). tallyOf (repliesIn l)) (sym saw));
     }

@@ -12,11 +12,12 @@ use denote.Ref.{now}
 use denote.Triple.Clauses.{AtExit}
 use denote.Triple.Entry.{Args, Res}
 use Rattle.wire.specs.declared.reply.Reply.{Reply}
-use Rattle.wire.proofs.Unique.{OneAnswer, same}
+use Rattle.wire.specs.Uniqueness.{OneAnswer}
+use Rattle.wire.proofs.Unique.{same}
 use Rattle.node.specs.Calls.{Call, setUp, hear, tick, request, nextFrame}
 use Rattle.module.specs.declared.tally.Tally.{Tally}
 use Rattle.module.specs.Tallies.{tallied}
-use Rattle.module.specs.Histories.{Module, Returned, Left, Promised}
+use Rattle.module.specs.Histories.{Counting, Returned, Left, Promised}
 use Rattle.module.proofs.tally.Tally.numbers.Reads as numbers
 use Rattle.module.proofs.tally.Tally.place.Reads as place
 use Rattle.module.proofs.tally.Tally.zero.Reads as zero
@@ -45,7 +46,7 @@ pub count-unique : (t : Tally) (reply : Reply) (w w′ : Tally) → w ≡ tallie
 count-unique t reply w w′ = same
 
 -- what a call returns, what it leaves in the lent output, and what it makes of the lent tally
-pub promised-unique : (c : Call) (m : Module) (r r′ : Returned c) (left left′ : Left c) (t t′ : Tally)
+pub promised-unique : (c : Call) (m : Counting) (r r′ : Returned c) (left left′ : Left c) (t t′ : Tally)
     → Promised c m r left t → Promised c m r′ left′ t′ → (r ≡ r′) × (left ≡ left′) × (t ≡ t′)
 promised-unique (setUp s settings) m r r′ left left′ t t′ p q = (same (p .0) (q .0), refl, same (p .1) (q .1))
 promised-unique (hear id dlc payload output) m r r′ left left′ t t′ p q = (same (p .0) (q .0), same (p .1) (q .1), same (p .2) (q .2))

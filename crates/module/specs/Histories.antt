@@ -9,37 +9,38 @@ use Rattle.node.specs.declared.Node.{Node}
 use Rattle.node.specs.declared.Answered.{Answered}
 use Rattle.node.specs.declared.Delivered.{Delivered}
 use Rattle.node.specs.declared.Given.{Given}
-use Rattle.node.specs.Nodes.{fresh, noId, answered, delivered, given}
-use Rattle.node.specs.Clock.{rolled}
+use Rattle.node.specs.Nodes.{fresh, noId, asAnswered, asDelivered, asGiven}
+use Rattle.node.specs.Clock.{rolled, unbounded}
 use Rattle.node.specs.SetUp as set-up
 use Rattle.node.specs.Hear as hearing
 use Rattle.node.specs.Tick as ticking
 use Rattle.node.specs.Request as requesting
 use Rattle.node.specs.NextFrame as giving
-use Rattle.node.specs.Calls.{Call, setUp, hear, tick, request, nextFrame, outcome, Answer}
+use Rattle.node.specs.Calls.{Call, setUp, hear, tick, request, nextFrame, outcome, Answer, after, answers}
 use Rattle.module.specs.declared.tally.Tally.{Tally}
-use Rattle.module.specs.Tallies.{none, tallied}
+use Rattle.module.specs.Tallies.{zeroTally, tallied, tallyOf}
 
-pub record Module : Type 0 where
+-- a node with the tally of its replies
+pub record Counting : Type 0 where
   pub node : Node
   pub tally : Tally
 
 -- before any call
-abbrev pub freshModule : Module
-freshModule = record { node = fresh; tally = none }
+abbrev pub freshCounting : Counting
+freshCounting = record { node = fresh; tally = zeroTally }
 
 -- a call: the node's, with its reply counted, a refusal's too
-abbrev pub moduleStep : Call → Module → Module
-moduleStep c m =
+abbrev pub countingStep : Call → Counting → Counting
+countingStep c m =
     record { node = outcome rolled c (m .node) .node; tally = tallied (m .tally) (outcome rolled c (m .node) .reply) }
 
 -- the module after some calls, the first of them first
-abbrev pub moduleAfterFrom : Module → List Call → Module
-moduleAfterFrom m [] = m
-moduleAfterFrom m (c ∷ cs) = moduleAfterFrom (moduleStep c m) cs
+abbrev pub countingAfterFrom : Counting → List Call → Counting
+countingAfterFrom m [] = m
+countingAfterFrom m (c ∷ cs) = countingAfterFrom (countingStep c m) cs
 
-abbrev pub moduleAfter : List Call → Module
-moduleAfter calls = moduleAfterFrom freshModule calls
+abbrev pub countingAfter : List Call → Counting
+countingAfter calls = countingAfterFrom freshCounting calls
 
 abbrev pub repliesIn : List Answer → List Reply
 repliesIn xs = map (λ a. a .reply) xs
@@ -62,21 +63,21 @@ Left (request s payload) = Unit {0}
 Left (nextFrame output) = List ℕ
 
 -- the contract of each call, at a module: of what it returns, of the lent output and of the lent tally
-abbrev pub Promised : (c : Call) → Module → Returned c → Left c → Tally → Type 0
+abbrev pub Promised : (c : Call) → Counting → Returned c → Left c → Tally → Type 0
 Promised (setUp s settings) m r left t =
-    (r ≡ answered (set-up.setUp s settings (m .node))) × (t ≡ tallied (m .tally) (set-up.setUp s settings (m .node) .reply))
+    (r ≡ asAnswered (set-up.setUp s settings (m .node))) × (t ≡ tallied (m .tally) (set-up.setUp s settings (m .node) .reply))
 Promised (hear id dlc payload output) m r left t =
-    (r ≡ delivered (hearing.hear id dlc payload output (m .node)))
+    (r ≡ asDelivered (hearing.hear id dlc payload output (m .node)))
     × (left ≡ over (hearing.hear id dlc payload output (m .node) .bytes) output)
     × (t ≡ tallied (m .tally) (hearing.hear id dlc payload output (m .node) .reply))
 Promised (tick output) m r left t =
-    (r ≡ delivered (ticking.tick rolled output (m .node)))
+    (r ≡ asDelivered (ticking.tick rolled output (m .node)))
     × (left ≡ over (ticking.tick rolled output (m .node) .bytes) output)
     × (t ≡ tallied (m .tally) (ticking.tick rolled output (m .node) .reply))
 Promised (request s payload) m r left t =
-    (r ≡ answered (requesting.request s payload (m .node))) × (t ≡ tallied (m .tally) (requesting.request s payload (m .node) .reply))
+    (r ≡ asAnswered (requesting.request s payload (m .node))) × (t ≡ tallied (m .tally) (requesting.request s payload (m .node) .reply))
 Promised (nextFrame output) m r left t =
-    (r ≡ given (giving.nextFrame output (m .node)))
+    (r ≡ asGiven (giving.nextFrame output (m .node)))
     × (left ≡ over (giving.nextFrame output (m .node) .bytes) output)
     × (t ≡ tallied (m .tally) (giving.nextFrame output (m .node) .reply))
 
@@ -98,7 +99,18 @@ seen (nextFrame output) r left = record { reply = r .reply; id = r .id; bytes = 
 
 -- From one module to another by some calls, each made with the node and the tally that the call before left, and what was seen
 -- of each. Of what the calls did nothing is known but that they kept their promises.
-pub data Run : Module → List Call → List Answer → Module → Type 0 where
-  start : {m : Module} → Run m [] [] m
-  next : {m end : Module} {cs : List Call} {xs : List Answer} (c : Call) (r : Returned c) (left : Left c) (t : Tally) → Promised c m r left t
+pub data Run : Counting → List Call → List Answer → Counting → Type 0 where
+  start : {m : Counting} → Run m [] [] m
+  next : {m end : Counting} {cs : List Call} {xs : List Answer} (c : Call) (r : Returned c) (left : Left c) (t : Tally) → Promised c m r left t
       → Run (record { node = nodeIn c r; tally = t }) cs xs end → Run m (c ∷ cs) (seen c r left ∷ xs) end
+
+-- From the fresh node and the zero tally: what was seen is what the definition says, with ticks counted without bound; the node is
+-- the definition's; and the tally is that of the replies that were seen.
+pub record Faithful (calls : List Call) (xs : List Answer) (end : Counting) : Type 0 where
+  pub answered : xs ≡ answers unbounded calls
+  pub node : end .node ≡ after rolled calls
+  pub counted : end .tally ≡ tallyOf (repliesIn xs)
+
+-- EVERY HISTORY: of any run of calls that kept their promises
+abbrev pub EveryHistory : Type 0
+EveryHistory = (calls : List Call) (xs : List Answer) (end : Counting) → Run freshCounting calls xs end → Faithful calls xs end

@@ -26,8 +26,8 @@ abbrev pub most : ℕ
 most = 4294967295
 
 -- before any call
-abbrev pub none : Tally
-none = record { counts = replicate (length counted) 0 }
+abbrev pub zeroTally : Tally
+zeroTally = record { counts = replicate (length counted) 0 }
 
 abbrev pub countOf : Reply → Tally → ℕ
 countOf r t = getD (t .counts) (placeOf r) 0

@@ -10,7 +10,7 @@ use wire::ids::Stream;
 use wire::settings::Settings;
 ghost use mathlib.Core.Path.{_≡_};
 ghost use Rattle.wire.specs.Delivered.{over};
-ghost use Rattle.node.specs.Nodes.{answered, delivered, given};
+ghost use Rattle.node.specs.Nodes.{asAnswered, asDelivered, asGiven};
 ghost use Rattle.node.specs.Clock.{rolled};
 ghost use Rattle.node.specs.SetUp.{setUp};
 ghost use Rattle.node.specs.Hear.{hear};
@@ -21,7 +21,7 @@ ghost use Rattle.module.specs.Tallies.{tallied};
 
 // Gives a stream a slot, with its settings.
 pub fn set_up(node: Node, stream: Stream, settings: Settings, tally: &mut Tally) -> Answered
-    ensures { λ r. ⌜ (r ≡ answered (setUp stream settings node))
+    ensures { λ r. ⌜ (r ≡ asAnswered (setUp stream settings node))
         × (now (tally .exit) ≡ tallied (now (tally .entry)) (setUp stream settings node .reply)) ⌝ }
 {
     let answer = node.set_up(stream, settings);
@@ -38,7 +38,7 @@ pub fn hear(
     out: &mut [u8],
     tally: &mut Tally,
 ) -> Delivered
-    ensures { λ r. ⌜ (r ≡ delivered (hear id dlc (now (payload .entry)) (now (out .entry)) node))
+    ensures { λ r. ⌜ (r ≡ asDelivered (hear id dlc (now (payload .entry)) (now (out .entry)) node))
         × (now (out .exit) ≡ over (hear id dlc (now (payload .entry)) (now (out .entry)) node .bytes) (now (out .entry)))
         × (now (tally .exit) ≡ tallied (now (tally .entry)) (hear id dlc (now (payload .entry)) (now (out .entry)) node .reply)) ⌝ }
 {
@@ -49,7 +49,7 @@ pub fn hear(
 
 // Moves the counter by one; what is due is delivered, and what is late dropped.
 pub fn tick(node: Node, out: &mut [u8], tally: &mut Tally) -> Delivered
-    ensures { λ r. ⌜ (r ≡ delivered (tick rolled (now (out .entry)) node))
+    ensures { λ r. ⌜ (r ≡ asDelivered (tick rolled (now (out .entry)) node))
         × (now (out .exit) ≡ over (tick rolled (now (out .entry)) node .bytes) (now (out .entry)))
         × (now (tally .exit) ≡ tallied (now (tally .entry)) (tick rolled (now (out .entry)) node .reply)) ⌝ }
 {
@@ -60,7 +60,7 @@ pub fn tick(node: Node, out: &mut [u8], tally: &mut Tally) -> Delivered
 
 // Takes a message to send on one of the node's own streams.
 pub fn request(node: Node, stream: Stream, payload: &[u8], tally: &mut Tally) -> Answered
-    ensures { λ r. ⌜ (r ≡ answered (request stream (now (payload .entry)) node))
+    ensures { λ r. ⌜ (r ≡ asAnswered (request stream (now (payload .entry)) node))
         × (now (tally .exit) ≡ tallied (now (tally .entry)) (request stream (now (payload .entry)) node .reply)) ⌝ }
 {
     let answer = node.request(stream, payload);
@@ -70,7 +70,7 @@ pub fn request(node: Node, stream: Stream, payload: &[u8], tally: &mut Tally) ->
 
 // Gives out the pending frame with the lowest bus identifier; it is pending no longer.
 pub fn next_frame(node: Node, out: &mut [u8], tally: &mut Tally) -> Given
-    ensures { λ r. ⌜ (r ≡ given (nextFrame (now (out .entry)) node))
+    ensures { λ r. ⌜ (r ≡ asGiven (nextFrame (now (out .entry)) node))
         × (now (out .exit) ≡ over (nextFrame (now (out .entry)) node .bytes) (now (out .entry)))
         × (now (tally .exit) ≡ tallied (now (tally .entry)) (nextFrame (now (out .entry)) node .reply)) ⌝ }
 {

@@ -1,7 +1,7 @@
 // The tally: a count for each reply number that the node's calls answer.
 use wire::reply::Reply;
 ghost use mathlib.Core.Path.{_≡_};
-ghost use Rattle.module.specs.Tallies.{counted, placeOf, none, tallied};
+ghost use Rattle.module.specs.Tallies.{counted, placeOf, zeroTally, tallied};
 
 pub struct Tally {
     // In the order of `Tally::NUMBERS`.
@@ -29,7 +29,7 @@ impl Tally {
     }
 
     pub fn zero() -> Tally
-        ensures { λ r. ⌜ r ≡ none ⌝ }
+        ensures { λ r. ⌜ r ≡ zeroTally ⌝ }
     {
         Tally::ZERO
     }

@@ -12,7 +12,7 @@ use Rattle.wire.specs.Settings.{receives, isTwoMessage}
 use Rattle.node.specs.declared.slots.Slot.{Slot}
 use Rattle.node.specs.declared.Node.{Node}
 use Rattle.node.specs.Nodes.{slotOf}
-use Rattle.node.specs.Slots.{nothing, holding, restamped, abortPending, withParts, withMessage}
+use Rattle.node.specs.Slots.{noMessage, holding, restamped, abortPending, withParts, withMessage}
 use Rattle.node.specs.Clock.{Clock, period, rolled}
 use Rattle.node.specs.Hear.{clashes, heardBy, hear}
 use Rattle.node.specs.Tick.{late, due, holdOver, lapsed, ageOf, tickSlot, dueSlots, ticked}
@@ -55,7 +55,7 @@ held-up-to-dc age x r two unconfirmed young =
     rw (not-late, unconfirmed-never-due age x two unconfirmed, not-over)
 
 -- and dropped with an abort pending at the next
-pub dropped-after-dc : (age : ℕ) (x : Slot) → Late age x → lapsed age x ≡ withParts x nothing (abortPending (x .pending))
+pub dropped-after-dc : (age : ℕ) (x : Slot) → Late age x → lapsed age x ≡ withParts x noMessage (abortPending (x .pending))
 unfolding lapsed
 dropped-after-dc age x l = rw (late-tells age x .back l)
 
@@ -66,7 +66,7 @@ module _ (age : ℕ) (x : Slot) (delivered : due age x ≡ true) where
       refuted (late age x) (λ l. let t = late-tells age x .says l in contrary delivered (unconfirmed-never-due age x (t .two-message) (t .unconfirmed)))
 
   -- the slot of a delivered message holds nothing
-  pub delivered-leaves : lapsed age x ≡ withMessage nothing x
+  pub delivered-leaves : lapsed age x ≡ withMessage noMessage x
   unfolding lapsed
   delivered-leaves = rw (due-not-late, delivered)
 
@@ -79,7 +79,7 @@ module _ (age : ℕ) (x : Slot) (delivered : due age x ≡ true) where
 -- so it is in the node that a tick leaves
 pub delivered-leaves-node : (clock : Clock) (s : Stream) (n : Node)
     → let now = clock .next (n .counter) in due (ageOf clock now (slotOf s n)) (slotOf s n) ≡ true
-    → slotOf s (ticked clock n) ≡ withMessage nothing (slotOf s n)
+    → slotOf s (ticked clock n) ≡ withMessage noMessage (slotOf s n)
 delivered-leaves-node clock s n delivered =
     slot-of-ticked clock s n ∙ delivered-leaves (ageOf clock (clock .next (n .counter)) (slotOf s n)) (slotOf s n) delivered
 

@@ -1,6 +1,7 @@
 -- Every public promise is met by one answer only, for every node and every input, and leaves a lent output one content only.
 use denote.Ref.{now}
-use Rattle.wire.proofs.Unique.{OneAnswer, OneContent, same}
+use Rattle.wire.specs.Uniqueness.{OneAnswer, OneContent}
+use Rattle.wire.proofs.Unique.{same}
 use Rattle.node.proofs.Node.set_up.Reads as set-up
 use Rattle.node.proofs.Node.hear.Reads as hear
 use Rattle.node.proofs.Node.tick.Reads as tick

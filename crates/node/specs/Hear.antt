@@ -12,7 +12,7 @@ use Rattle.wire.specs.Frames.{badFrame}
 use Rattle.wire.specs.Delivered.{recordOf}
 use Rattle.node.specs.declared.slots.Slot.{Slot}
 use Rattle.node.specs.declared.Node.{Node}
-use Rattle.node.specs.Slots.{nothing, holding, restamped, confirmed, same, abortPending, isReceiver, withParts, withMessage}
+use Rattle.node.specs.Slots.{noMessage, holding, restamped, confirmed, same, abortPending, isReceiver, withParts, withMessage}
 use Rattle.node.specs.Nodes.{slotOf, onSlot, Outcome, Refusals, unlessRefused, done}
 
 -- a plain frame is delivered at once, so the longest record must fit
@@ -34,7 +34,7 @@ confirmationHeard x =
 
 -- an abort: what is held is dropped, confirmed or not; an abort of one's own stays pending
 abbrev pub abortHeard : Slot → Slot
-abortHeard x = cond (x .message .held) (withMessage nothing x) x
+abortHeard x = cond (x .message .held) (withMessage noMessage x) x
 
 unfoldable pub heardBy : (now code : ℕ) → (payload : List ℕ) → Slot → Slot
 heardBy now code payload x =

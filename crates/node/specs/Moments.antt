@@ -9,6 +9,7 @@ use Rattle.wire.specs.declared.ids.Stream.{Stream}
 use Rattle.wire.specs.declared.settings.Settings.{Settings}
 use Rattle.wire.specs.declared.reply.Reply.{Reply}
 use Rattle.wire.specs.declared.reply.Reply.the-variants.{Done, BadSettings, BadFrame, Busy}
+use Rattle.wire.specs.Settings.{ofTwoMessage}
 use Rattle.wire.specs.Identifiers.{split}
 use Rattle.node.specs.Nodes.{slotOf, Outcome}
 use Rattle.node.specs.Clock.{Clock, period}
@@ -28,7 +29,7 @@ abbrev pub send : ℕ
 send = 1
 
 abbrev pub settings : (role dd : ℕ) → Settings
-settings role dd = record { rd = 2; dc = 3; ra = 2; dd = dd; role = role; class = 2 }
+settings role dd = ofTwoMessage role 2 3 2 dd
 
 -- ── the calls, with outputs that are long enough ──
 abbrev pub data₅ : Call

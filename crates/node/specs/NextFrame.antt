@@ -11,7 +11,7 @@ use Rattle.wire.specs.Settings.{isPlain}
 use Rattle.node.specs.declared.slots.Pending.{Pending}
 use Rattle.node.specs.declared.slots.Slot.{Slot}
 use Rattle.node.specs.declared.Node.{Node}
-use Rattle.node.specs.Slots.{payloadOf, withParts}
+use Rattle.node.specs.Slots.{payloadOf, frames, withParts}
 use Rattle.node.specs.Nodes.{slotOf, onSlot, Outcome, Refusals, unlessRefused}
 
 -- the longest payload must fit
@@ -30,7 +30,7 @@ one false i = []
 abbrev pub pendingCodes : Slot → List ℕ
 pendingCodes x = one (x .pending .payload) (payloadCode x) ++ one (x .pending .confirmation) 1 ++ one (x .pending .abort) 2
 
--- as bus identifiers of the slot's stream (a number that is no stream has none)
+-- as bus identifiers of the slot's stream. (A number that is no stream has none: such a slot is in no node that calls make.)
 abbrev pub idsFrom : (stream : ℕ) → (codes : List ℕ) → List ℕ
 idsFrom stream [] = []
 idsFrom stream (code ∷ codes) = (stream * 4 + code) ∷ idsFrom stream codes
@@ -56,9 +56,9 @@ lowest (i ∷ is) = cond (isNone is) i (min i (lowest is))
 -- the frame with this code is pending no longer
 abbrev pub without : (code : ℕ) → Pending → Pending
 without code p =
-    cond (eqb code 1) (record { payload = p .payload; confirmation = false; abort = p .abort })
-    (cond (eqb code 2) (record { payload = p .payload; confirmation = p .confirmation; abort = false })
-    (record { payload = false; confirmation = p .confirmation; abort = p .abort }))
+    cond (eqb code 1) (frames (p .payload) false (p .abort))
+    (cond (eqb code 2) (frames (p .payload) (p .confirmation) false)
+    (frames false (p .confirmation) (p .abort)))
 
 unfoldable pub givenOut : (code : ℕ) → Slot → Slot
 givenOut code x = withParts x (x .message) (without code (x .pending))

@@ -61,11 +61,11 @@ abbrev pub done : Node → (written : List ℕ) → Outcome
 done n written = record { node = n; reply = Done; id = noId; bytes = written }
 
 -- the outcome as each call answers it
-abbrev pub answered : Outcome → Answered
-answered o = record { node = o .node; reply = o .reply }
+abbrev pub asAnswered : Outcome → Answered
+asAnswered o = record { node = o .node; reply = o .reply }
 
-abbrev pub delivered : Outcome → Delivered
-delivered o = record { node = o .node; reply = o .reply; written = length (o .bytes) }
+abbrev pub asDelivered : Outcome → Delivered
+asDelivered o = record { node = o .node; reply = o .reply; written = length (o .bytes) }
 
-abbrev pub given : Outcome → Given
-given o = record { node = o .node; reply = o .reply; id = o .id; len = length (o .bytes) }
+abbrev pub asGiven : Outcome → Given
+asGiven o = record { node = o .node; reply = o .reply; id = o .id; len = length (o .bytes) }

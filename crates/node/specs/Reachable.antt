@@ -1,5 +1,5 @@
 -- What every node keeps that calls made from the fresh one, ticks being counted without bound.
-use Prim.Native.Nat.{ℕ, _+_, _-_, _≤_}
+use Prim.Native.Nat.{ℕ, _-_, _≤_}
 use mathlib.Core.Path.{_≡_}
 use mathlib.Core.Bool.{true, false, cond, not, _&&_}
 use mathlib.Core.List.{List, [], _∷_}
@@ -11,13 +11,14 @@ use Rattle.node.specs.declared.slots.Message.{Message}
 use Rattle.node.specs.declared.slots.Pending.{Pending}
 use Rattle.node.specs.declared.slots.Slot.{Slot}
 use Rattle.node.specs.declared.Node.{Node}
-use Rattle.node.specs.Slots.{nothing, padded, payloadOf, empty, isOf, some}
+use Rattle.node.specs.Slots.{noMessage, padded, payloadOf, empty, isOf, some}
 use Rattle.node.specs.Nodes.{slotCount}
+use Rattle.node.specs.Tick.{holdLength}
 
 -- the age at which a message is held at the longest: by a sender, by a receiver that waits for the confirmation, by a receiver
 abbrev pub longest : Settings → Message → ℕ
 longest s m =
-    cond (sends s) (s .rd + s .dd)
+    cond (sends s) (holdLength s)
     (cond (isTwoMessage s && not (m .confirmed)) (s .dc) (s .dd))
 
 -- a message in a slot with these settings
@@ -32,7 +33,7 @@ pub record KeptMessage (now : ℕ) (s : Settings) (m : Message) : Type 0 where
   -- what is not held keeps no live stamp
   pub no-stamp : m .held ≡ false → m .stamp ≡ 0
   -- and in a receive slot there is nothing then
-  pub idle : receives s ≡ true → m .held ≡ false → m ≡ nothing
+  pub idle : receives s ≡ true → m .held ≡ false → m ≡ noMessage
   pub confirmed-held : m .confirmed ≡ true → (m .held ≡ true) × (receives s ≡ true) × (isTwoMessage s ≡ true)
 
 -- pending frames of a slot with these settings

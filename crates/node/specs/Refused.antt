@@ -13,6 +13,7 @@ use Rattle.wire.specs.declared.reply.Reply.{Reply}
 use Rattle.wire.specs.declared.reply.Reply.the-variants.{Done, BadSettings, TableFull, Taken, BadFrame, NotMine, Misfit}
 use Rattle.wire.specs.declared.reply.Reply.the-variants.{Clash, Busy, NotSender, BadLength, ShortOutput, Nothing}
 use Rattle.wire.specs.Delivered.{over}
+use Rattle.wire.specs.Settings.{ofPlain}
 use Rattle.node.specs.declared.slots.Slot.{Slot}
 use Rattle.node.specs.declared.Node.{Node}
 use Rattle.node.specs.Nodes.{slotCount, Outcome, Refusals}
@@ -61,7 +62,7 @@ sender = Call.setUp five (settings send 6)
 
 -- a stream of plain frames, and all those below a number
 abbrev plain : ℕ → Call
-plain s = Call.setUp (record { 0 = s }) (record { rd = 0; dc = 0; ra = 0; dd = 0; role = receive; class = 0 })
+plain s = Call.setUp (record { 0 = s }) (ofPlain receive)
 
 abbrev plains : ℕ → List Call
 plains zero = []

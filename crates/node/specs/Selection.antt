@@ -8,7 +8,7 @@ use lib.Dec.{eqb, leb, ltb}
 use Rattle.wire.specs.Settings.{isTwoMessage, sends}
 use Rattle.wire.specs.Identifiers.{maxBusId}
 use Rattle.node.specs.declared.slots.Slot.{Slot}
-use Rattle.node.specs.Slots.{nothing, released, abortPending, withParts, withMessage}
+use Rattle.node.specs.Slots.{noMessage, released, abortPending, withParts, withMessage}
 use Rattle.node.specs.Tick.{late, due, holdOver}
 
 -- the tick changes the slot
@@ -23,7 +23,7 @@ mayStir age x = x .message .held && (ltb (x .settings .dd) age || isTwoMessage (
 unfoldable pub stirred : Slot → Slot
 stirred x =
     cond (sends (x .settings)) (withMessage (released (x .message)) x)
-    (cond (isTwoMessage (x .settings) && not (x .message .confirmed)) (withParts x nothing (abortPending (x .pending))) (withMessage nothing x))
+    (cond (isTwoMessage (x .settings) && not (x .message .confirmed)) (withParts x noMessage (abortPending (x .pending))) (withMessage noMessage x))
 
 -- one above the stream of a slot that is due; 0, where it is not
 unfoldable pub keyOf : (age : ℕ) → Slot → ℕ

@@ -5,7 +5,7 @@ use mathlib.Core.List.{List, [], _∷_, _++_}
 use lib.ListN.{length, take, drop, replicate}
 use lib.Dec.{eqb}
 use Rattle.wire.specs.declared.ids.Stream.{Stream}
-use Rattle.wire.specs.Settings.{receives, sends}
+use Rattle.wire.specs.Settings.{noSettings, receives, sends}
 use Rattle.wire.specs.Frames.{maxPayload}
 use Rattle.node.specs.declared.slots.Message.{Message}
 use Rattle.node.specs.declared.slots.Pending.{Pending}
@@ -16,8 +16,8 @@ use Rattle.node.specs.declared.slots.Slot.{Slot}
 abbrev pub padded : List ℕ → List ℕ
 padded payload = payload ++ drop (length payload) (replicate maxPayload 0)
 
-abbrev pub nothing : Message
-nothing = record { stamp = 0; len = 0; held = false; confirmed = false; bytes = replicate maxPayload 0 }
+abbrev pub noMessage : Message
+noMessage = record { stamp = 0; len = 0; held = false; confirmed = false; bytes = replicate maxPayload 0 }
 
 -- taken up at this moment, unconfirmed
 abbrev pub holding : (now : ℕ) → (payload : List ℕ) → Message
@@ -37,6 +37,7 @@ confirmed m = record { stamp = m .stamp; len = m .len; held = m .held; confirmed
 abbrev pub released : Message → Message
 released m = record { stamp = 0; len = m .len; held = false; confirmed = false; bytes = m .bytes }
 
+-- its first bytes, as many as its length says (all eight of them, where that is above 8: only in nodes that no call makes)
 abbrev pub payloadOf : Message → List ℕ
 payloadOf m = take (m .len) (m .bytes)
 
@@ -52,19 +53,23 @@ abbrev pub same : Message → (payload : List ℕ) → Bool
 same m payload = eqb (m .len) (length payload) && sameBytes (payloadOf m) payload
 
 -- ── the slot ──
+-- which frames are pending
+abbrev pub frames : (payload confirmation abort : Bool) → Pending
+frames payload confirmation abort = record { payload = payload; confirmation = confirmation; abort = abort }
+
 abbrev pub nonePending : Pending
-nonePending = record { payload = false; confirmation = false; abort = false }
+nonePending = frames false false false
 
 abbrev pub abortPending : Pending → Pending
-abortPending p = record { payload = p .payload; confirmation = p .confirmation; abort = true }
+abortPending p = frames (p .payload) (p .confirmation) true
 
 -- no stream is set up here
 abbrev pub empty : Slot
 empty =
     record {
       stream = record { 0 = 0 };
-      settings = record { rd = 0; dc = 0; ra = 0; dd = 0; role = 0; class = 0 };
-      message = nothing;
+      settings = noSettings;
+      message = noMessage;
       pending = nonePending;
       used = false;
     }
@@ -88,7 +93,7 @@ abbrev pub withMessage : Message → Slot → Slot
 withMessage m x = withParts x m (x .pending)
 
 -- ── the table ──
--- the first slot of which the test is true; where there is none, the empty slot
+-- the first slot of which the test is true; where there is none, the empty slot (in a node that calls make, a stream has one slot at most)
 unfoldable pub first : (Slot → Bool) → List Slot → Slot
 first test [] = empty
 first test (x ∷ xs) = cond (test x) x (first test xs)

@@ -5,11 +5,12 @@ use mathlib.Core.List.{List, [], _∷_, _++_, map}
 use lib.ListN.{length}
 use lib.Dec.{eqb, ltb}
 use Rattle.wire.specs.declared.reply.Reply.the-variants.{ShortOutput}
+use Rattle.wire.specs.declared.settings.Settings.{Settings}
 use Rattle.wire.specs.Settings.{isImd, isTwoMessage}
 use Rattle.wire.specs.Delivered.{recordOf}
 use Rattle.node.specs.declared.slots.Slot.{Slot}
 use Rattle.node.specs.declared.Node.{Node}
-use Rattle.node.specs.Slots.{nothing, released, payloadOf, abortPending, isReceiver, isSender, withParts, withMessage}
+use Rattle.node.specs.Slots.{noMessage, released, payloadOf, abortPending, isReceiver, isSender, withParts, withMessage}
 use Rattle.node.specs.Nodes.{Outcome, Refusals, unlessRefused, done}
 use Rattle.node.specs.Clock.{Clock}
 
@@ -28,18 +29,22 @@ due age x =
     isReceiver x && x .message .held && (isImd (x .settings) || isTwoMessage (x .settings) && x .message .confirmed)
     && ltb (x .settings .dd) age
 
--- held by a sender, and older than data reach and deliver delay
+-- how long a sender holds its message: data reach and deliver delay
+abbrev pub holdLength : Settings → ℕ
+holdLength s = s .rd + s .dd
+
+-- held by a sender, and older than that
 unfoldable pub holdOver : (age : ℕ) → Slot → Bool
-holdOver age x = isSender x && x .message .held && ltb (x .settings .rd + x .settings .dd) age
+holdOver age x = isSender x && x .message .held && ltb (holdLength (x .settings)) age
 
 -- dropped with an abort pending; delivered; the hold ends
 unfoldable pub lapsed : (age : ℕ) → Slot → Slot
 lapsed age x =
-    cond (late age x) (withParts x nothing (abortPending (x .pending)))
-    (cond (due age x) (withMessage nothing x)
+    cond (late age x) (withParts x noMessage (abortPending (x .pending)))
+    (cond (due age x) (withMessage noMessage x)
     (cond (holdOver age x) (withMessage (released (x .message)) x) x))
 
--- x in its place in a list that ascends by stream; a stream has one place
+-- x in its place in a list that ascends by stream. A stream has one place: that two slots have one stream is true only of nodes that no call makes.
 abbrev pub place : Slot → List Slot → List Slot
 place x [] = x ∷ []
 place x (y ∷ ys) =

@@ -18,7 +18,7 @@ ghost use lib.ListN.{length};
 ghost use lib.Dec.{eqb};
 ghost use Rattle.wire.specs.Frames.{maxPayload};
 ghost use Rattle.wire.specs.Delivered.{recordOf, over};
-ghost use Rattle.node.specs.Nodes.{delivered};
+ghost use Rattle.node.specs.Nodes.{asDelivered};
 ghost use Rattle.node.specs.Hear.{hearRoom, clashes, dataHeard, confirmationHeard, abortHeard, heardBy, hear};
 ghost use Rattle.node.specs.Clock.{rolled, unbounded};
 ghost use Rattle.node.specs.Calls.{Call, after, rollOutcome};
@@ -75,7 +75,7 @@ impl Slot {
         ensures { λ r. ⌜ r ≡ abortHeard self ⌝ }
     {
         if self.message.held {
-            let nothing = Message::NOTHING;
+            let nothing = Message::NONE;
             self.message = nothing;
             return self;
         }
@@ -114,10 +114,10 @@ impl Node {
 
     // Takes in a frame that the controller received.
     pub fn hear(mut self, id: BusId, dlc: u8, payload: &[u8], out: &mut [u8]) -> Delivered
-        ensures exact { λ r. ⌜ (r ≡ delivered (hear id dlc (now (payload .entry)) (now (out .entry)) self))
+        ensures exact { λ r. ⌜ (r ≡ asDelivered (hear id dlc (now (payload .entry)) (now (out .entry)) self))
             × (now (out .exit) ≡ over (hear id dlc (now (payload .entry)) (now (out .entry)) self .bytes) (now (out .entry))) ⌝ }
         ensures unbounded { λ r. ⌜ ((h : List Call) → self ≡ after rolled h
-            → (r ≡ delivered (rollOutcome (hear id dlc (now (payload .entry)) (now (out .entry)) (after unbounded h))))
+            → (r ≡ asDelivered (rollOutcome (hear id dlc (now (payload .entry)) (now (out .entry)) (after unbounded h))))
             × (now (out .exit) ≡ over (hear id dlc (now (payload .entry)) (now (out .entry)) (after unbounded h) .bytes) (now (out .entry)))) ⌝ }
     {
         if out.len() < Node::HEAR_ROOM {

@@ -14,7 +14,7 @@ ghost use lib.ListN.{length};
 ghost use Rattle.wire.specs.Frames.{maxPayload};
 ghost use Rattle.wire.specs.Delivered.{over};
 ghost use Rattle.node.specs.Slots.{payloadOf};
-ghost use Rattle.node.specs.Nodes.{given};
+ghost use Rattle.node.specs.Nodes.{asGiven};
 ghost use Rattle.node.specs.Selection.{lowestOrAbove};
 ghost use Rattle.node.specs.NextFrame.{pendingCodes, pendingIn, givenOut, payloadFor, nextFrame};
 ghost use Rattle.node.specs.Clock.{rolled, unbounded};
@@ -118,10 +118,10 @@ impl Node {
 
     // Gives out the pending frame with the lowest bus identifier; it is pending no longer.
     pub fn next_frame(mut self, out: &mut [u8]) -> Given
-        ensures exact { λ r. ⌜ (r ≡ given (nextFrame (now (out .entry)) self))
+        ensures exact { λ r. ⌜ (r ≡ asGiven (nextFrame (now (out .entry)) self))
             × (now (out .exit) ≡ over (nextFrame (now (out .entry)) self .bytes) (now (out .entry))) ⌝ }
         ensures unbounded { λ r. ⌜ ((h : List Call) → self ≡ after rolled h
-            → (r ≡ given (rollOutcome (nextFrame (now (out .entry)) (after unbounded h))))
+            → (r ≡ asGiven (rollOutcome (nextFrame (now (out .entry)) (after unbounded h))))
             × (now (out .exit) ≡ over (nextFrame (now (out .entry)) (after unbounded h) .bytes) (now (out .entry)))) ⌝ }
     {
         if out.len() < Node::NEXT_ROOM {

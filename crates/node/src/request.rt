@@ -15,7 +15,7 @@ ghost use Prim.Native.Nat.{_≤_};
 ghost use lib.ListN.{length};
 ghost use Rattle.wire.specs.Frames.{maxPayload};
 ghost use Rattle.node.specs.Slots.{holding, keeping};
-ghost use Rattle.node.specs.Nodes.{answered};
+ghost use Rattle.node.specs.Nodes.{asAnswered};
 ghost use Rattle.node.specs.Request.{busy, requested, request};
 ghost use Rattle.node.specs.Clock.{rolled, unbounded};
 ghost use Rattle.node.specs.Calls.{Call, after, rollOutcome};
@@ -74,9 +74,9 @@ fn message_for(plain: bool, counter: u16, payload: &[u8]) -> Message
 impl Node {
     // Takes a message to send on one of the node's own streams.
     pub fn request(mut self, stream: Stream, payload: &[u8]) -> Answered
-        ensures exact { λ r. ⌜ r ≡ answered (request stream (now (payload .entry)) self) ⌝ }
+        ensures exact { λ r. ⌜ r ≡ asAnswered (request stream (now (payload .entry)) self) ⌝ }
         ensures unbounded { λ r. ⌜ ((h : List Call) → self ≡ after rolled h
-            → r ≡ answered (rollOutcome (request stream (now (payload .entry)) (after unbounded h)))) ⌝ }
+            → r ≡ asAnswered (rollOutcome (request stream (now (payload .entry)) (after unbounded h)))) ⌝ }
     {
         if payload.len() > Message::MAX_LEN {
             return Answered {

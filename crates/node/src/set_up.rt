@@ -9,7 +9,7 @@ use wire::reply::Reply;
 use wire::settings::Settings;
 ghost use mathlib.Core.Path.{_≡_};
 ghost use mathlib.Core.List.{List};
-ghost use Rattle.node.specs.Nodes.{answered};
+ghost use Rattle.node.specs.Nodes.{asAnswered};
 ghost use Rattle.node.specs.SetUp.{slotFor, setUp};
 ghost use Rattle.node.specs.Clock.{rolled, unbounded};
 ghost use Rattle.node.specs.Calls.{Call, after, rollOutcome};
@@ -22,7 +22,7 @@ impl Slot {
         Slot {
             stream: stream,
             settings: settings,
-            message: Message::NOTHING,
+            message: Message::NONE,
             pending: Pending::NONE,
             used: true,
         }
@@ -32,8 +32,8 @@ impl Slot {
 impl Node {
     // Gives a stream a slot, with its settings.
     pub fn set_up(mut self, stream: Stream, settings: Settings) -> Answered
-        ensures exact { λ r. ⌜ r ≡ answered (setUp stream settings self) ⌝ }
-        ensures unbounded { λ r. ⌜ ((h : List Call) → self ≡ after rolled h → r ≡ answered (rollOutcome (setUp stream settings (after unbounded h)))) ⌝ }
+        ensures exact { λ r. ⌜ r ≡ asAnswered (setUp stream settings self) ⌝ }
+        ensures unbounded { λ r. ⌜ ((h : List Call) → self ≡ after rolled h → r ≡ asAnswered (rollOutcome (setUp stream settings (after unbounded h)))) ⌝ }
     {
         if !settings.legal(stream) {
             return Answered {

@@ -22,7 +22,7 @@ impl Message {
     // The longest payload of a frame.
     pub const MAX_LEN: usize = 8;
 
-    pub const NOTHING: Message = Message {
+    pub const NONE: Message = Message {
         stamp: 0,
         len: 0,
         held: false,
@@ -119,15 +119,8 @@ pub struct Slot {
 impl Slot {
     pub const EMPTY: Slot = Slot {
         stream: Stream(0),
-        settings: Settings {
-            rd: 0,
-            dc: 0,
-            ra: 0,
-            dd: 0,
-            role: 0,
-            class: 0,
-        },
-        message: Message::NOTHING,
+        settings: Settings::NONE,
+        message: Message::NONE,
         pending: Pending::NONE,
         used: false,
     };

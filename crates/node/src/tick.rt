@@ -12,7 +12,7 @@ ghost use Prim.Native.Nat.{_+_, _≤_, _<_};
 ghost use lib.ListN.{length};
 ghost use Rattle.wire.specs.Frames.{maxPayload};
 ghost use Rattle.wire.specs.Delivered.{over};
-ghost use Rattle.node.specs.Nodes.{slotCount, delivered};
+ghost use Rattle.node.specs.Nodes.{slotCount, asDelivered};
 ghost use Rattle.node.specs.Tick.{late, due, holdOver, tick};
 ghost use Rattle.node.specs.Selection.{stirs, mayStir, stirred, keyOf, before, above, leastAt};
 ghost use Rattle.node.specs.Clock.{rolled, unbounded};
@@ -153,14 +153,14 @@ impl Slot {
             return self;
         }
         if (s.class == Settings::TWO_MESSAGE) & !m.confirmed {
-            let after_drop = Message::NOTHING;
+            let after_drop = Message::NONE;
             let mut p = self.pending;
             p.abort = true;
             self.message = after_drop;
             self.pending = p;
             return self;
         }
-        let after_delivery = Message::NOTHING;
+        let after_delivery = Message::NONE;
         self.message = after_delivery;
         self
     }
@@ -205,10 +205,10 @@ impl Node {
 
     // Moves the counter by one; what is due is delivered, and what is late dropped.
     pub fn tick(mut self, out: &mut [u8]) -> Delivered
-        ensures exact { λ r. ⌜ (r ≡ delivered (tick rolled (now (out .entry)) self))
+        ensures exact { λ r. ⌜ (r ≡ asDelivered (tick rolled (now (out .entry)) self))
             × (now (out .exit) ≡ over (tick rolled (now (out .entry)) self .bytes) (now (out .entry))) ⌝ }
         ensures unbounded { λ r. ⌜ ((h : List Call) → self ≡ after rolled h
-            → (r ≡ delivered (rollOutcome (tick unbounded (now (out .entry)) (after unbounded h))))
+            → (r ≡ asDelivered (rollOutcome (tick unbounded (now (out .entry)) (after unbounded h))))
             × (now (out .exit) ≡ over (tick unbounded (now (out .entry)) (after unbounded h) .bytes) (now (out .entry)))) ⌝ }
     {
         if out.len() < Node::TICK_ROOM {

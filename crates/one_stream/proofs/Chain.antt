@@ -236,6 +236,9 @@ module _ (S : Delays) (C : Class) (W : Works S C) where
       no-waiting i l [] e x = x
       no-waiting i l (f ∷ fs) e x = past-frame i l (past-all i l) f (e .0) .1 (λ d. x .1 (W .doneSome (f .sendings) d))
 
+      pub none-pending : (i : ℕ) → Live (Z .state) i → T (Z .state .receiver i .pending) → ⊥
+      none-pending i l x = no-waiting i l (Z .state .receiver i .frames) (v .books .frames i) (v .books .waits i l x)
+
       pub open-inv : (b : Bytes) → Inv (act C Z (opens b)) false (λ i. Z .state .receiver i .log)
       unfolding act
       open-inv b =
@@ -243,8 +246,7 @@ module _ (S : Delays) (C : Class) (W : Works S C) where
             books = record {
               times = record { asked = λ i. omega arith; sentData = λ x. absurd x; even = λ x. absurd x };
               frames = λ i. tt;
-              waits = λ i l x.
-                  absurd (no-waiting i l (Z .state .receiver i .frames) (v .books .frames i) (v .books .waits i l x));
+              waits = λ i l x. absurd (none-pending i l x);
             };
             slots =
                 W .start (opened C b (Z .state)) refl refl (λ i. refl)

@@ -10,7 +10,7 @@ use Rattle.one_stream.proofs.Truth.{cond-elim, and-l, and-r, or-not, no
 use Rattle.one_stream.specs.Sendings.{Bytes, Moment, move, Delays, Some, Full, first, Within, Fullness}
 use Rattle.one_stream.proofs.Sendings.{move-later, move-reached, move-missed, some-resend, full-resend, omitted, decide-full, missed-short}
 use Rattle.one_stream.proofs.Sendings.{Stamped, stamp-new, stamp-keep}
-use Rattle.one_stream.specs.Frames.{Frame, addFrame, sendAt, bytesAt, giveNewest, Each, Any, At, NonEmpty, Waiting, MaySend}
+use Rattle.one_stream.specs.Frames.{Frame, addFrame, sendAt, bytesAt, Each, Any, At, NonEmpty, Waiting, MaySend}
 use Rattle.one_stream.proofs.Frames.{Stable, each-none, at-some, at-each, add-some, give-some, some-give, send-some, sent-any}
 use Rattle.one_stream.specs.Classes.{Note, Receiver, Live, sendData, sendConf, sendCode2, give, tick, die, hearData, hearConf, hearCode2}
 use Rattle.one_stream.specs.Classes.{ticked, sendOwn, giveOwn, dead, withReceivers, step, Legal}
@@ -298,59 +298,49 @@ module _ (S : Delays) (fit : Fit S) (w : World S) (a : Bool) (base : ℕ → Lis
               (missed-short hears full (w .receiver i .live) i (l .0) lv t) (ok i lv));
         }
 
-  -- ── death ──
-  module _ (q : ℕ) (l : Legal (twoM S) S w (die q)) where
-    abbrev w-dead : World S
-    w-dead = step (twoM S) w (die q)
+  -- ── giving out and death: no slot, log or time changes ──
+  record Quiet (r r′ : Receiver (twoM S)) : Type 0 where
+    slot : r′ .slot ≡ r .slot
+    log : r′ .log ≡ r .log
+    some : NonEmpty (r .frames) → NonEmpty (r′ .frames)
+    was : NonEmpty (r′ .frames) → NonEmpty (r .frames)
 
-    die-slot : (i : ℕ) (s : Slot) → SlotOk S w a i s (w .receiver i .frames) (w .receiver i .log) (base i)
-        → SlotOk S w-dead a i s (w .receiver i .frames) (w .receiver i .log) (base i)
-    unfolding step
-    die-slot i s k =
-        later-slot S w (w .now) (w-dead .receiver) (λ i. omega arith) (live-before S (twoM S) w (die q)) a i
-        (λ p. any-step S (twoM S) w (die q) l p WasSent (was-stable S (w .now) false)) (twice-stays S (twoM S) w (die q) l)
-        s (w .receiver i .frames) (w .receiver i .frames) (w .receiver i .log) (base i) refl (λ x. x) (λ x. x) k
+  quiet : (r : Receiver (twoM S)) → Quiet r r
+  quiet r = record { slot = refl; log = refl; some = λ x. x; was = λ x. x }
 
-    pub dieSlots : Slots S w-dead a base
-    unfolding step dead
-    dieSlots =
+  module _ (recv′ : ℕ → Receiver (twoM S)) (before : (i : ℕ) → T (recv′ i .live) → Live w i)
+      (grow : (p : ℕ) → Any WasSent (w .receiver p .frames) → Any WasSent (recv′ p .frames))
+      (tw : Twice S (twoM S) w → Twice S (twoM S) (later S w (w .now) recv′))
+      (same : (i : ℕ) → T (recv′ i .live) → Quiet (w .receiver i) (recv′ i)) where
+    quietSlots : Slots S (later S w (w .now) recv′) a base
+    quietSlots =
         record {
           sentConf = sl .sentConf;
-          flawed = λ t. later-flaw S w (w .now) (w-dead .receiver) (λ i. omega arith)
-              (live-before S (twoM S) w (die q)) (sl .flawed t);
-          each = λ i. cond-elim (λ (x : Receiver (twoM S)). T (x .live) → ReceiverOk S w-dead a i x (base i))
-              (eqb i q) (λ t lv. absurd lv)
-              (λ t lv. die-slot i (w .receiver i .slot) (ok i lv));
+          flawed = λ t. later-flaw S w (w .now) recv′ (λ i. omega arith) before (sl .flawed t);
+          each = λ i lv.
+              let k = same i lv in
+              let r = w .receiver i in
+              rw (k .slot, k .log)
+              (later-slot S w (w .now) recv′ (λ i. omega arith) before a i grow tw (r .slot) (r .frames) (recv′ i .frames) (r .log) (base i) refl
+              (k .some) (k .was) (ok i (before i lv)));
         }
 
-  -- ── giving out ──
-  module _ (q : ℕ) (l : Legal (twoM S) S w (give q)) where
-    abbrev w-given : World S
-    w-given = step (twoM S) w (give q)
+  pub dieSlots : (q : ℕ) → Legal (twoM S) S w (die q) → Slots S (step (twoM S) w (die q)) a base
+  unfolding step dead
+  dieSlots q l =
+      quietSlots (step (twoM S) w (die q) .receiver) (live-before S (twoM S) w (die q))
+      (λ p. any-step S (twoM S) w (die q) l p WasSent (was-stable S (w .now) false)) (twice-stays S (twoM S) w (die q) l)
+      (λ i. cond-elim (λ (x : Receiver (twoM S)). T (x .live) → Quiet (w .receiver i) x) (eqb i q) (λ t lv. absurd lv)
+      (λ t lv. quiet (w .receiver i)))
 
-    give-slot : (i : ℕ) (s : Slot) (fs fs′ : List Frame) (log : List Note) → (NonEmpty fs → NonEmpty fs′)
-        → (NonEmpty fs′ → NonEmpty fs) → SlotOk S w a i s fs log (base i) → SlotOk S w-given a i s fs′ log (base i)
-    unfolding step
-    give-slot i s fs fs′ log to fro k =
-        later-slot S w (w .now) (w-given .receiver) (λ i. omega arith) (live-before S (twoM S) w (give q)) a i
-        (λ p. any-step S (twoM S) w (give q) l p WasSent (was-stable S (w .now) false))
-        (twice-stays S (twoM S) w (give q) l) s fs fs′ log (base i) refl to fro k
-
-    pub giveSlots : Slots S w-given a base
-    unfolding step giveOwn
-    giveSlots =
-        record {
-          sentConf = sl .sentConf;
-          flawed = λ t. later-flaw S w (w .now) (w-given .receiver) (λ i. omega arith)
-              (live-before S (twoM S) w (give q)) (sl .flawed t);
-          each = λ i. cond-elim (λ (x : Receiver (twoM S)). T (x .live) → ReceiverOk S w-given a i x (base i))
-              (eqb i q)
-              (λ t lv. give-slot i (w .receiver i .slot) (w .receiver i .frames)
-              (giveNewest (w .receiver i .frames)) (w .receiver i .log) (give-some (w .receiver i .frames))
-              (some-give (w .receiver i .frames)) (ok i lv))
-              (λ t lv. give-slot i (w .receiver i .slot) (w .receiver i .frames) (w .receiver i .frames)
-              (w .receiver i .log) (λ x. x) (λ x. x) (ok i lv));
-        }
+  pub giveSlots : (q : ℕ) → Legal (twoM S) S w (give q) → Slots S (step (twoM S) w (give q)) a base
+  unfolding step giveOwn
+  giveSlots q l =
+      quietSlots (step (twoM S) w (give q) .receiver) (live-before S (twoM S) w (give q))
+      (λ p. any-step S (twoM S) w (give q) l p WasSent (was-stable S (w .now) false)) (twice-stays S (twoM S) w (give q) l)
+      (λ i. cond-elim (λ (x : Receiver (twoM S)). T (x .live) → Quiet (w .receiver i) x) (eqb i q)
+      (λ t lv. record { slot = refl; log = refl; some = give-some (w .receiver i .frames); was = some-give (w .receiver i .frames) })
+      (λ t lv. quiet (w .receiver i)))
 
   -- ── a sending of an abort ──
   module _ (q k : ℕ) (hears : ℕ → Bool) (full : Bool) (l : Legal (twoM S) S w (sendCode2 q k hears full)) where

@@ -1,6 +1,6 @@
 -- Reading a delivered record: the ways to each answer; what was written is read, and what was read is written again.
 use mathlib.Core.Path.{_≡_, refl, sym, ap, _∙_}
-use mathlib.Core.Bool.{Bool, true, false, cond, not, _||_, or-true, false≢true}
+use mathlib.Core.Bool.{Bool, true, false, cond, not, or-true, false≢true}
 use mathlib.Core.Logic.{_≢_}
 use mathlib.Core.List.{List, [], _∷_, _++_, append-nil, append-assoc}
 use Prim.Native.Nat.{ℕ, zero, suc, _+_, _-_, _*_, _/_, _%_, _≤_, _<_}

@@ -1,8 +1,7 @@
 -- Every public promise is met by one answer only, and leaves a lent output one content only.
 use mathlib.Core.Path.{_≡_, sym, _∙_}
-use mathlib.Core.List.{List}
-use Prim.Native.Nat.{ℕ}
 use denote.Ref.{now}
+use Rattle.wire.specs.Uniqueness.{OneAnswer, OneContent}
 use Rattle.wire.proofs.class.carries.Reads as carries
 use Rattle.wire.proofs.delivered.record_at.Reads as record-at
 use Rattle.wire.proofs.delivered.record_length.Reads as record-length
@@ -17,18 +16,6 @@ use Rattle.wire.proofs.settings.Settings.of_plain.Reads as of-plain
 use Rattle.wire.proofs.settings.Settings.of_imd.Reads as of-imd
 use Rattle.wire.proofs.settings.Settings.of_two_message.Reads as of-two-message
 use Rattle.wire.proofs.settings.legal_numbers.Reads as legal-numbers
-
--- A function's promise, as it is read from its source: a statement about lifetimes, the input, the answer, and what is
--- behind each parameter at the exit.
-module _ {L : Type 0} {I A E : L → Type 0} where
-  -- for every input any two answers that meet the promise are equal
-  abbrev pub OneAnswer : ((l : L) → I l → A l → E l → Type 0) → Type 0
-  OneAnswer promise = (l : L) (input : I l) (a b : A l) (s t : E l) → promise l input a s → promise l input b t → a ≡ b
-
-  -- and so are any two contents of what was lent
-  abbrev pub OneContent : ((l : L) → I l → A l → E l → Type 0) → ((l : L) → E l → List ℕ) → Type 0
-  OneContent promise content =
-      (l : L) (input : I l) (a b : A l) (s t : E l) → promise l input a s → promise l input b t → content l s ≡ content l t
 
 -- the one law: two values that meet the same definition are equal
 pub same : {A : Type 0} {d a b : A} → a ≡ d → b ≡ d → a ≡ b

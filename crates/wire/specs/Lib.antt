@@ -6,3 +6,4 @@ pub mod Classes
 pub mod Frames
 pub mod Settings
 pub mod Delivered
+pub mod Uniqueness

@@ -1,143 +1,63 @@
 -- Demand 3: of every accepted two-message request, one tick beyond Rd + dd after it, all live receivers have delivered the
--- message once since then, or none has; and all, if its data and its confirmation each had a full sending.
-use Prim.Native.Nat.{ℕ, _+_, _<_}
+-- message once since then, or none has; and all, if its data and its confirmation each had a full sending. With common ticks every live
+-- module has counted as many, so that this is demand 3 by counts at that tick.
+use Prim.Native.Nat.{ℕ, _+_}
 use native.Mathlib.Omega.{arith}
-use mathlib.Core.Path.{_≡_, refl, ap, sym, subst}
+use mathlib.Core.Path.{_≡_, refl, ap, _∙_}
 use mathlib.Core.Logic.{_⊎_, inl, inr}
-use mathlib.Core.Bool.{not}
-use mathlib.Core.List.{List, [], _∷_, _++_, append-assoc}
+use mathlib.Core.List.{List, [], _∷_, _++_}
 use lib.Dec.{T}
-use Rattle.wire.specs.declared.ids.Stream.{Stream}
-use Rattle.wire.specs.Settings.{isTwoMessage}
-use Rattle.one_stream.proofs.Truth.{and-l, and-r, both}
-use Rattle.one_stream.specs.Sendings as OS
-use Rattle.bench.specs.Bench.{Bench, isLive, slotAt, now, bookOf}
-use Rattle.bench.specs.SetUp.{Plan, proper, start}
-use Rattle.bench.specs.Events.{Event, asks, ticks, step, run, isAccepted}
-use Rattle.bench.specs.Rules.{keepsSoFar, oneOmission, wasFull}
-use Rattle.bench.specs.Demands.{tickCount, delivered, liveReceiver, accepts, noneAccepted, Judged, atRequest, atJudgement, Demand3}
-use Rattle.bench.proofs.laws.ModuleAfterEvent.{countOf, count-is}
-use Rattle.bench.proofs.laws.TicksCounted.{run-append, count-step, count-run}
-use Rattle.bench.proofs.message.ClassOnBench.{toDelays, ClassOnBench}
-use Rattle.bench.proofs.message.SeenAfterOwnEvent.{Valid, valid-step}
-use Rattle.bench.proofs.message.MessageKept.{Track}
-use Rattle.bench.proofs.message.RequestOpens.{logsOf}
-use Rattle.bench.proofs.message.Judgement.{none-while-held, until-next, Judges, DeliveredOnce, DeliveredNot, judged-all-or-none}
-use Rattle.bench.proofs.message.AcceptedRequest.{Requested, requested}
-use Rattle.bench.proofs.two_message.TwoMessageOnBench.{fits, twoMessage, two-message}
-use Rattle.bench.proofs.two_message.AllIfFull.{judged-all-if-full}
-
--- a tick accepts no request
-none-and-tick : (s : Stream) (b : Bench) (h : List Event) → T (noneAccepted s b h) → T (noneAccepted s b (h ++ (ticks ∷ [])))
-none-and-tick s b [] none = tt
-none-and-tick s b (e ∷ es) none =
-    both (not (accepts s b e)) (noneAccepted s (step b e) (es ++ (ticks ∷ []))) (and-l (not (accepts s b e)) (noneAccepted s (step b e) es) none)
-    (none-and-tick s (step b e) es (and-r (not (accepts s b e)) (noneAccepted s (step b e) es) none))
+use Rattle.one_stream.proofs.Truth.{and-l}
+use Rattle.node.specs.Slots.{isReceiver}
+use Rattle.bench.specs.Bench.{Bench, isLive, slotAt}
+use Rattle.bench.specs.SetUp.{start}
+use Rattle.bench.specs.Events.{Event, asks, ticks}
+use Rattle.bench.specs.Demands.{tickCount, MessageIn, atRequest, justAsked, atMoment, DeliveredOnce, DeliveredNot, Atomic, LiveNow, HasCounted}
+use Rattle.bench.specs.Demands.{OneTickBeyond, Demand3, JudgedIsNewest}
+use Rattle.bench.proofs.laws.TicksCounted.{count-step, count-run}
+use Rattle.bench.proofs.message.MessageOfHistory.{newest-while-held}
+use Rattle.bench.proofs.two_message.TwoMessageOnBench.{two-message}
+use Rattle.bench.proofs.demand3.ByCounts.{hold-is, demand3-by-counts}
 
 count-and-tick : (h : List Event) → tickCount (h ++ (ticks ∷ [])) ≡ tickCount h + 1
 count-and-tick [] = refl
 count-and-tick (e ∷ es) = omega (arith, count-and-tick es)
 
--- ── a message of a history: requested in b₁, judged in b₃ ──
-module _ (plan : Plan) (ok : T (proper plan)) (before since rest : List Event) (j : ℕ) (s : Stream) (p : List ℕ) where
-  abbrev b₁ : Bench
-  b₁ = run (start plan) before
+-- ── at the tick ──
+module _ (b₀ : Bench) (h : List Event) (m : MessageIn b₀ h) (tick : OneTickBeyond b₀ h m) where
+  -- a live module has counted since the request
+  pub all-counted : (i : ℕ) → T (isLive i (atMoment b₀ h m)) → HasCounted b₀ h m i
+  all-counted i live =
+      let c = count-run (m .since) (justAsked b₀ h m) i live in
+      omega (
+        arith,
+        c .0,
+        count-step (atRequest b₀ h m) (asks (m .sender) (m .stream) (m .payload)) i (c .1),
+        ap tickCount (tick .last) ∙ count-and-tick (tick .earlier),
+        tick .long,
+      )
 
-  abbrev b₂ : Bench
-  b₂ = step b₁ (asks j s p)
+  -- so all live receivers are judged
+  at-the-tick : Atomic b₀ h m (λ i. LiveNow b₀ h m i × HasCounted b₀ h m i) → Atomic b₀ h m (LiveNow b₀ h m)
+  at-the-tick a = record { allOrNone = go (a .allOrNone); allIfFull = λ d c i live. a .allIfFull d c i (judged i live) }
+    where
+      Counted : ℕ → Type 0
+      Counted i = LiveNow b₀ h m i × HasCounted b₀ h m i
 
-  abbrev pub b₃ : Bench
-  b₃ = run b₂ (since ++ (ticks ∷ []))
+      judged : (i : ℕ) → LiveNow b₀ h m i → Counted i
+      judged i live = (live, all-counted i (and-l (isLive i (atMoment b₀ h m)) (isReceiver (slotAt (m .stream) i (atMoment b₀ h m))) live))
 
-  module _ (keeps : T (keepsSoFar (start plan) (before ++ (asks j s p ∷ (since ++ (ticks ∷ rest)))))) (accepted : T (isAccepted j s p b₁))
-      (two : T (isTwoMessage (slotAt s j b₁ .settings)))
-      (long : tickCount since ≡ slotAt s j b₁ .settings .rd + slotAt s j b₁ .settings .dd) where
-    pub q : Requested two-message plan before (since ++ (ticks ∷ rest)) j s p
-    q = requested two-message plan before (since ++ (ticks ∷ rest)) j s p ok keeps accepted two
+      go : ((i : ℕ) → Counted i → DeliveredOnce b₀ h m i) ⊎ ((i : ℕ) → Counted i → DeliveredNot b₀ h m i)
+          → ((i : ℕ) → LiveNow b₀ h m i → DeliveredOnce b₀ h m i) ⊎ ((i : ℕ) → LiveNow b₀ h m i → DeliveredNot b₀ h m i)
+      go (inl all) = inl (λ i live. all i (judged i live))
+      go (inr none) = inr (λ i live. none i (judged i live))
 
-    abbrev pub D : OS.Delays
-    D = toDelays (q .settings)
-
-    abbrev pub K : ClassOnBench 2 D
-    K = two-message s (q .settings) (q .of) (q .lawful)
-
-    numbers : toDelays (slotAt s j b₁ .settings) ≡ D
-    numbers = q .at-request .sender .1 .numbers
-
-    hold-is : K .C .hold ≡ tickCount since
-    unfolding twoMessage
-    hold-is = omega (arith, long, ap (λ (d : OS.Delays). d .rd) numbers, ap (λ (d : OS.Delays). d .dd) numbers)
-
-    at-request : Valid 2 D s j b₂
-    at-request = valid-step (asks j s p) (q .at-request)
-
-    none : T (noneAccepted s b₂ since)
-    none =
-        none-while-held K s j (now b₁) p (logsOf s b₁) b₂ at-request (q .track) since (ticks ∷ rest) (q .keeps-on)
-        (λ l. omega (arith, hold-is, count-step b₁ (asks j s p) j l, count-is j (b₁ .modules)))
-
-    pub known : Valid 2 D s j b₃ × Track K s j (now b₁) p (logsOf s b₁) b₃ × T (keepsSoFar b₃ rest)
-    known =
-        until-next K s j (now b₁) p (logsOf s b₁) b₂ at-request (q .track) (since ++ (ticks ∷ [])) rest
-        (subst (λ h. T (keepsSoFar b₂ h)) (sym (append-assoc since (ticks ∷ []) rest)) (q .keeps-on)) (none-and-tick s b₂ since none)
-
-    pub counted : (i : ℕ) → T (isLive i b₃) → countOf b₁ i + K .C .hold < countOf b₃ i
-    counted i l =
-        let c = count-run (since ++ (ticks ∷ [])) b₂ i l in
-        omega (arith, c .0, count-and-tick since, count-step b₁ (asks j s p) i (c .1), hold-is)
-
-    abbrev x : Track K s j (now b₁) p (logsOf s b₁) b₃
-    x = known .1
-
-    judges : (i : ℕ) → T (liveReceiver s b₃ i) → Judges K s j p b₁ b₃ x i
-    judges i l = record { receiver = l; counted = omega (arith, counted i (and-l (isLive i b₃) _ l)) }
-
-    module _ (rule2 : T (oneOmission (bookOf s 0 b₃))) where
-      abbrev AllLive : (ℕ → Type 0) → Type 0
-      AllLive P = (i : ℕ) → T (liveReceiver s b₃ i) → P i
-
-      pub all-or-none : AllLive (DeliveredOnce K s j p b₁ b₃ x) ⊎ AllLive (DeliveredNot K s j p b₁ b₃ x)
-      all-or-none = go (judged-all-or-none K s j p b₁ b₃ x rule2)
-        where
-          go : ((i : ℕ) → Judges K s j p b₁ b₃ x i → DeliveredOnce K s j p b₁ b₃ x i) ⊎ ((i : ℕ) → Judges K s j p b₁ b₃ x i → DeliveredNot K s j p b₁ b₃ x i)
-              → AllLive (DeliveredOnce K s j p b₁ b₃ x) ⊎ AllLive (DeliveredNot K s j p b₁ b₃ x)
-          go (inl all) = inl (λ i l. all i (judges i l))
-          go (inr none) = inr (λ i l. none i (judges i l))
-
-      pub all-if-full : T (wasFull (bookOf s 0 b₃ .payloadFrame)) → T (wasFull (bookOf s 0 b₃ .confirmation)) → AllLive (DeliveredOnce K s j p b₁ b₃ x)
-      all-if-full d c i l = judged-all-if-full D (fits s (q .settings) (q .of) (q .lawful)) s j p b₁ b₃ x rule2 d c i (judges i l)
-
--- where the message is judged
-pub judged-bench : (b₀ : Bench) (h : List Event) (m : Judged b₀ h)
-    → atJudgement b₀ h m ≡ run (step (atRequest b₀ h m) (asks (m .sender) (m .stream) (m .payload))) (m .since ++ (ticks ∷ []))
-judged-bench b₀ h m = run-append (m .before) (asks (m .sender) (m .stream) (m .payload) ∷ (m .since ++ (ticks ∷ []))) b₀
+-- until that tick the sender is busy
+pub judged-is-newest : JudgedIsNewest
+judged-is-newest plan ok h keeps m two tick =
+    newest-while-held two-message plan ok h keeps m two (tick .earlier) (tick .last) (omega (arith, hold-is plan ok h keeps m two, tick .long))
 
 -- DEMAND 3
 pub demand3 : Demand3
-demand3 plan ok h k m rule2 =
-    let keeps = subst (λ l. T (keepsSoFar (start plan) l)) (m .split) k in
-    let rule2₃ = subst (λ b. T (oneOmission (bookOf (m .stream) 0 b))) (judged-bench (start plan) h m) rule2 in
-    record {
-      allOrNone = subst (λ b. AllOrNoneIn b) (sym (judged-bench (start plan) h m))
-          (all-or-none plan ok (m .before) (m .since) (m .rest) (m .sender) (m .stream) (m .payload) keeps (m .accepted) (m .twoMessage) (m .long) rule2₃);
-      allIfFull = subst (λ b. AllIfFullIn b) (sym (judged-bench (start plan) h m))
-          (all-if-full plan ok (m .before) (m .since) (m .rest) (m .sender) (m .stream) (m .payload) keeps (m .accepted) (m .twoMessage) (m .long) rule2₃);
-    }
-  where
-    s : Stream
-    s = m .stream
-
-    b₁ : Bench
-    b₁ = atRequest (start plan) h m
-
-    Once : Bench → ℕ → Type 0
-    Once b i = (t : ℕ) × (delivered s i b ≡ record { at = t; stream = s; payload = m .payload } ∷ delivered s i b₁)
-
-    AllIn : Bench → (ℕ → Type 0) → Type 0
-    AllIn b P = (i : ℕ) → T (liveReceiver s b i) → P i
-
-    AllOrNoneIn : Bench → Type 0
-    AllOrNoneIn b = AllIn b (Once b) ⊎ AllIn b (λ i. delivered s i b ≡ delivered s i b₁)
-
-    AllIfFullIn : Bench → Type 0
-    AllIfFullIn b = T (wasFull (bookOf s 0 b .payloadFrame)) → T (wasFull (bookOf s 0 b .confirmation)) → AllIn b (Once b)
+demand3 plan ok h keeps m two tick rule2 =
+    at-the-tick (start plan) h m tick (demand3-by-counts plan ok h keeps m two (judged-is-newest plan ok h keeps m two tick) rule2)

@@ -18,20 +18,22 @@ use Rattle.bench.specs.SetUp.{Plan, start}
 use Rattle.bench.specs.Events.{Event, asks, gives, sends, ticks, dies, named, lent, withNode, asked, next, dead}
 use Rattle.bench.specs.Events.{isAccepted, opened, isNext, gave, step, run}
 use Rattle.bench.specs.Rules.{wasFull, oneOmission}
-use Rattle.bench.specs.Demands.{Judged, atRequest, atJudgement, Atomic, delivered, liveReceiver}
+use Rattle.bench.specs.Demands.{MessageIn, atRequest, atMoment, Atomic, LiveNow, delivered, liveReceiver}
+use Rattle.bench.proofs.laws.TicksCounted.{to-the-end}
 use Rattle.bench.specs.Dummies.{AllIfFullAt, FailsAt, Manner, hearsBy, tickedBy, stepBy, runBy, keepsBy, asNode, AsNodeIsTheRules}
 use Rattle.bench.specs.Dummies.{NeverDelivers, NeverDeliveringFails, RefusesAll, RefusingDeliversNothing, RefusingFails}
 use Rattle.bench.specs.MomentTen.{five, three, message, wait, logs}
 use Rattle.bench.proofs.examples.ExampleHistories.{computing}
 use Rattle.bench.specs.MomentTen.{full-confirmation}
-use Rattle.bench.proofs.examples.MomentTen.{full-judged}
+use Rattle.bench.proofs.examples.MomentTen.{full-message}
 use Rattle.bench.proofs.examples.NotEmpty.{full-confirmation-is-atomic}
 use Rattle.bench.proofs.dummies.RefusingNode.{NoneHeld, none-fresh, none-due, none-request, none-next-frame, none-tick, none-set-ups}
 
--- it is what demand 3 says of a judged message
-pub second-half : (b₀ : Bench) (h : List Event) (m : Judged b₀ h) → Atomic b₀ h m
-    → AllIfFullAt (m .stream) (m .payload) (atRequest b₀ h m) (atJudgement b₀ h m)
-second-half b₀ h m a = a .allIfFull
+-- it is what demand 3 says of a judged message, here at the end of a history
+pub second-half : (b₀ : Bench) (h : List Event) (m : MessageIn b₀ h) → Atomic b₀ h m (LiveNow b₀ h m)
+    → m .rest ≡ [] → AllIfFullAt (m .stream) (m .payload) (atRequest b₀ h m) (run b₀ h)
+second-half b₀ h m a ends =
+    subst (λ b. AllIfFullAt (m .stream) (m .payload) (atRequest b₀ h m) b) (sym (to-the-end b₀ h m ∙ ap (run (atMoment b₀ h m)) ends)) (a .allIfFull)
 
 abbrev logsIn : List Module → List (List Delivery)
 logsIn ms = map (λ (m : Module). m .log) ms
@@ -234,11 +236,11 @@ judged M = runBy M (start three) full-confirmation
 
 -- with crate node's modules it holds
 pub as-node-passes : AllIfFullAt five message (requested asNode) (judged asNode)
-unfolding full-judged
+unfolding full-message
 as-node-passes =
     subst (λ b. AllIfFullAt five message b (judged asNode)) (sym (as-node (wait 10) (start three)))
     (subst (λ b. AllIfFullAt five message (run (start three) (wait 10)) b) (sym (as-node full-confirmation (start three)))
-    (second-half (start three) full-confirmation full-judged full-confirmation-is-atomic))
+    (second-half (start three) full-confirmation full-message full-confirmation-is-atomic refl))
 
 -- its node stays as it is at every frame, and it writes nothing
 abbrev pub refusing : Manner

@@ -9,7 +9,7 @@ use Rattle.wire.specs.declared.settings.Settings.{Settings}
 use Rattle.wire.specs.Identifiers.{streamOf, codeOf}
 use Rattle.node.specs.declared.slots.Slot.{Slot}
 use Rattle.node.specs.declared.Node.{Node}
-use Rattle.node.specs.Slots.{nothing, released, abortPending, empty, isFree, isOf, isReceiver, isSender, withParts, withMessage}
+use Rattle.node.specs.Slots.{noMessage, released, abortPending, empty, isFree, isOf, isReceiver, isSender, withParts, withMessage}
 use Rattle.node.specs.Nodes.{fresh, slotCount, slotOf, Outcome}
 use Rattle.node.specs.Reachable.{All}
 use Rattle.node.specs.Clock.{Clock, unbounded}
@@ -46,8 +46,8 @@ unheld-lapsed age x u = by-tests (late age x) (due age x) (holdOver age x)
   where
     by-tests : (l d o : Bool)
         → Unheld
-        (cond l (withParts x nothing (abortPending (x .pending)))
-        (cond d (withMessage nothing x)
+        (cond l (withParts x noMessage (abortPending (x .pending)))
+        (cond d (withMessage noMessage x)
         (cond o (withMessage (released (x .message)) x) x)))
     by-tests true d o = λ r. refl
     by-tests false true o = λ r. refl

@@ -4,10 +4,11 @@ use Prim.Native.Nat.{ℕ}
 use mathlib.Core.Path.{refl}
 use mathlib.Core.List.{List, [], _∷_, _++_}
 use Rattle.wire.specs.declared.ids.Stream.{Stream}
+use Rattle.wire.specs.Settings.{ofPlain, ofImd}
 use Rattle.bench.specs.Bench.{Delivery, thePayload, theConfirmation, theAbort}
 use Rattle.bench.specs.SetUp.{Entry, Plan, start}
 use Rattle.bench.specs.Events.{Event, asks, gives, sends, ticks, dies, all, only}
-use Rattle.bench.specs.Demands.{Judged, Seen}
+use Rattle.bench.specs.Demands.{MessageIn, OneTickBeyond, FullData}
 use Rattle.bench.specs.MomentTen.{five, twoM, message, wait, got, Shows}
 use Rattle.bench.proofs.examples.ExampleHistories.{computing}
 
@@ -23,10 +24,10 @@ six = record { 0 = 6 }
 
 -- what a module is set up with, by its role: 0 receive, 1 send
 abbrev three-as : (role : ℕ) → Entry
-three-as role = record { stream = three; settings = record { rd = 0; dc = 0; ra = 0; dd = 0; role = role; class = 0 } }
+three-as role = record { stream = three; settings = ofPlain role }
 
 abbrev four-as : (role : ℕ) → Entry
-four-as role = record { stream = four; settings = record { rd = 2; dc = 0; ra = 0; dd = 4; role = role; class = 1 } }
+four-as role = record { stream = four; settings = ofImd role 2 4 }
 
 abbrev five-as : (role : ℕ) → Entry
 five-as role = twoM five 2 3 2 6 role
@@ -115,7 +116,8 @@ pub a-busy-day : Shows eight busy-day their-logs
 unfolding computing
 a-busy-day = record { set-up = refl; keeps-rules = refl; delivers = refl }
 
-pub first-on-five : Judged (start eight) busy-day
+-- the first message on 5, one tick beyond Rd + dd after its request
+unfoldable pub first-on-five : MessageIn (start eight) busy-day
 unfolding computing
 first-on-five =
     record {
@@ -123,34 +125,20 @@ first-on-five =
       sender = 0;
       stream = five;
       payload = message;
-      since = since;
+      since = since ++ (ticks ∷ []);
       rest = rest;
       split = refl;
       accepted = tt;
-      twoMessage = tt;
-      long = refl;
     }
 
--- the first messages on 5 and 6
-unfoldable pub seen-on-five : Seen (start eight) busy-day
-unfolding computing
-seen-on-five =
-    record {
-      before = wait 3;
-      sender = 0;
-      stream = five;
-      payload = message;
-      since = since;
-      rest = ticks ∷ rest;
-      split = refl;
-      accepted = tt;
-      twoMessage = tt;
-      newest = tt;
-    }
+pub first-judged : OneTickBeyond (start eight) busy-day first-on-five
+unfolding computing first-on-five
+first-judged = record { earlier = since; last = refl; long = refl }
 
-unfoldable pub seen-on-six : Seen (start eight) busy-day
+-- the first message on 6, until the second one there is asked for
+unfoldable pub first-on-six : MessageIn (start eight) busy-day
 unfolding computing
-seen-on-six =
+first-on-six =
     record {
       before = wait 3 ++ (asks 0 five message ∷ on-three-and-four);
       sender = 7;
@@ -160,6 +148,13 @@ seen-on-six =
       rest = at-10 ++ wait 1 ++ (ticks ∷ rest);
       split = refl;
       accepted = tt;
-      twoMessage = tt;
-      newest = tt;
     }
+
+-- the data of both was full
+pub full-on-five : FullData (start eight) busy-day first-on-five
+unfolding computing first-on-five
+full-on-five = record { twoMessage = tt; newest = tt; full = tt }
+
+pub full-on-six : FullData (start eight) busy-day first-on-six
+unfolding computing first-on-six
+full-on-six = record { twoMessage = tt; newest = tt; full = tt }

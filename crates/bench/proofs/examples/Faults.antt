@@ -30,23 +30,23 @@ pub then-nobody-delivers : Shows three battery-out ([] ∷ [] ∷ [] ∷ [])
 unfolding computing
 then-nobody-delivers = record { set-up = refl; keeps-rules = refl; delivers = refl }
 
--- all hear the data at 10, and A alone the confirmation at 12; the sender lives; B drops at 14, and its abort is full at 15
-abbrev pub omitted : List Event
-omitted =
+-- all hear the data at 10, and A alone the confirmation at 12; the sender lives; B drops at 14, and this happens at 15
+abbrev heard-by-one : List Event → List Event
+heard-by-one then =
     asked ++ (sends five 0 thePayload all ∷ []) ++ wait 2
-    ++ (gives 0 five 1 ∷ sends five 0 theConfirmation (only (1 ∷ [])) ∷ []) ++ wait 3
-    ++ (gives 2 five 2 ∷ sends five 0 (theAbort 2 0) all ∷ []) ++ wait 4
+    ++ (gives 0 five 1 ∷ sends five 0 theConfirmation (only (1 ∷ [])) ∷ []) ++ wait 3 ++ then ++ wait 4
+
+-- B's abort is full
+abbrev pub omitted : List Event
+omitted = heard-by-one (gives 2 five 2 ∷ sends five 0 (theAbort 2 0) all ∷ [])
 
 pub an-omitted-confirmation-drops-it : Shows three omitted ([] ∷ [] ∷ [] ∷ [])
 unfolding computing
 an-omitted-confirmation-drops-it = record { set-up = refl; keeps-rules = refl; delivers = refl }
 
--- the same, but B dies at 15 with its abort given out and unsent: A, the only receiver that lives, delivers
+-- B dies with its abort given out and unsent: A, the only receiver that lives, delivers
 abbrev pub unsent-abort : List Event
-unsent-abort =
-    asked ++ (sends five 0 thePayload all ∷ []) ++ wait 2
-    ++ (gives 0 five 1 ∷ sends five 0 theConfirmation (only (1 ∷ [])) ∷ []) ++ wait 3
-    ++ (gives 2 five 2 ∷ dies 2 ∷ []) ++ wait 4
+unsent-abort = heard-by-one (gives 2 five 2 ∷ dies 2 ∷ [])
 
 pub an-unsent-abort-drops-nothing : Shows three unsent-abort ([] ∷ (got 17 five message ∷ []) ∷ [] ∷ [])
 unfolding computing

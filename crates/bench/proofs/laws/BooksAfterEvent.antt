@@ -5,7 +5,6 @@ use mathlib.Core.Bool.{Bool, true, false, _||_, cond}
 use mathlib.Core.List.{List, [], _∷_, map}
 use lib.Dec.{T, eqb→eq}
 use Rattle.wire.specs.declared.ids.Stream.{Stream}
-use Rattle.node.specs.Calls.{after}
 use Rattle.one_stream.proofs.Truth.{cond-elim, cond-true, is-false}
 use Rattle.bench.specs.Bench.{Module, Bench, Frame, Which, Book, Ledger, Moment, booksIn, booksOf, counts, now, sameStream}
 use Rattle.bench.specs.Events.{Event, asks, gives, sends, ticks, dies, step, isAccepted, isNext, opened, gave, newBook, onBooks}

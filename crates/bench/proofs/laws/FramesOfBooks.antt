@@ -106,7 +106,8 @@ module _ (Q : Stream → Book → Type 0) where
         let e = sends z n w to in
         let change = onFrame w (sentOnce (now b) (isFull to)) in
         by-stream e z
-        (λ l. subst (AllBooks (Q z)) (sym (books-sent z b l n w to)) (entered e z (at change n (booksOf z b)) (all-at (Q z) change stays n (booksOf z b) (a z))))
+        (λ l. subst (AllBooks (Q z)) (sym (books-sent z b l n w to))
+        (entered e z (at change n (booksOf z b)) (all-at (Q z) change stays n (booksOf z b) (a z))))
         (λ y other. subst (AllBooks (Q y)) (sym (books-sent-other y b z n w to other)) (entered e y (booksOf y b) (a y)))
     books-step ticks stays = λ z. subst (AllBooks (Q z)) (sym (books-ticked z b)) (entered ticks z (booksOf z b) (a z))
     books-step (dies j) stays = λ z. subst (AllBooks (Q z)) (sym (books-dead z b j)) (a z)

@@ -15,6 +15,7 @@ use Rattle.node.specs.declared.Node.{Node}
 use Rattle.wire.specs.Classes.{carries}
 use Rattle.wire.specs.Frames.{badFrame}
 use Rattle.wire.specs.Identifiers.{streamOf, codeOf}
+use Rattle.wire.specs.Settings.{receives}
 use Rattle.node.specs.Calls.{hear, tick, request, nextFrame}
 use Rattle.node.specs.Clock.{unbounded}
 use Rattle.node.specs.Hear.{clashes, heardBy}
@@ -24,16 +25,16 @@ use Rattle.node.specs.Slots.{isReceiver}
 use Rattle.node.proofs.Choices.{into, either-way}
 use Rattle.node.proofs.kept.EveryCall.{kept-by}
 use Rattle.node.proofs.slots.Streams.{kindOf, heard-keeps, lapsed-keeps, requested-keeps, given-out-keeps}
-use Rattle.one_stream.proofs.Truth.{cond-elim, cond-false, and-l, and-r, not-so}
+use Rattle.one_stream.proofs.Truth.{cond-elim, cond-false, and-l, and-r, both, is-true, so, not-so}
 use Rattle.bench.specs.Bench.{Module, Bench, Frame, noModule, moduleAt, isLive, counts, now, bookOf, frameOf, ownerOf, Delivery}
 use Rattle.bench.specs.Bench.{sameStream}
 use Rattle.bench.specs.Events.{Event, asks, gives, sends, ticks, dies, step, ticked, dead, hears, named, isAccepted, isNext, opened}
 use Rattle.bench.specs.Events.{gave, withNode, atOnce, lent, onto, deliveries, asked, next}
 use Rattle.bench.specs.Lists.{nth, at}
 use Rattle.bench.specs.SetUp.{isDone}
-use Rattle.bench.proofs.laws.SlotAfterCall.{Same, same-stream, takes, hearing, hear-own, hear-other, ticking, tick-slot, asking, accepts, ask-own}
-use Rattle.bench.proofs.laws.SlotAfterCall.{ask-other, hear-counter, tick-counter, ask-counter, giving, next-own, next-other, next-counter}
-use Rattle.bench.proofs.laws.SlotAfterCall.{onStream}
+use Rattle.bench.proofs.laws.SlotAfterCall.{Same, same-stream, slot-kept, takes, hearing, hear-own, hear-other, ticking}
+use Rattle.bench.proofs.laws.SlotAfterCall.{tick-slot, asking, accepts, ask-own, ask-other, hear-counter, tick-counter, ask-counter}
+use Rattle.bench.proofs.laws.SlotAfterCall.{giving, next-own, next-other, next-counter, onStream}
 use Rattle.bench.proofs.laws.ListPlaces.{nth-there, nth-each, length-each}
 
 -- ── lists ──
@@ -192,6 +193,17 @@ deaf s id bytes n e = go (decide-stream s (streamOf id))
         fits : Bool
         fits = carries (x .settings .class) (codeOf id) && not (clashes (codeOf id) bytes x)
 
+-- an abort is pending at receivers alone
+pub pending-receives : (s : Stream) (n : Node) → Kept n → T (slotOf s n .pending .abort) → T (isReceiver (slotOf s n))
+pending-receives s n k t =
+    let x = slotOf s n in
+    let ks = slot-kept s n k in
+    both (x .used) (receives (x .settings)) (used (x .used) refl) (so (ks .pending .abort-received (is-true (x .pending .abort) t) .0))
+  where
+    used : (u : Bool) → slotOf s n .used ≡ u → T (slotOf s n .used)
+    used true e = so e
+    used false e = absurd (subst (λ (y : Slot). T (y .pending .abort)) (slot-kept s n k .free e) t)
+
 next-kind : (s : Stream) (n : Node) → Kept n → T (isDone (giving n .reply)) → kindOf (slotOf s (giving n .node)) ≡ kindOf (slotOf s n)
 next-kind s n k d = go (decide-stream s (streamOf (giving n .id)))
   where
@@ -216,6 +228,11 @@ moved-tick s m = go (m .live) (λ t. t)
     go false h = moved-not s m
 
 -- the guard of giving out
+pub next-lives : (b : Bench) (j : ℕ) (z : Stream) (c : ℕ) → T (isNext j z c b) → T (isLive j b)
+next-lives b j z c t =
+    and-l (isLive j b) (isDone (next j b .reply)) (and-l (isLive j b && isDone (next j b .reply)) (sameStream (streamOf (next j b .id)) z)
+    (and-l (isLive j b && isDone (next j b .reply) && sameStream (streamOf (next j b .id)) z) (eqb (codeOf (next j b .id)) c) t))
+
 pub next-done : (b : Bench) (j : ℕ) (z : Stream) (c : ℕ) → T (isNext j z c b)
     → T (isDone (next j b .reply)) × (streamOf (next j b .id) ≡ z) × (codeOf (next j b .id) ≡ c)
 next-done b j z c t =

@@ -1,4 +1,4 @@
--- How live modules count through a history: all alike, a tick each.
+-- A history in parts, and how live modules count through it: all alike, a tick each.
 use Prim.Native.Nat.{ℕ, _+_}
 use native.Mathlib.Omega.{arith}
 use native.Mathlib.Nat.{add-zero}
@@ -8,7 +8,7 @@ use mathlib.Core.List.{List, [], _∷_, _++_}
 use lib.Dec.{T, eqb}
 use Rattle.one_stream.proofs.Truth.{cond-elim, cond-true}
 use Rattle.bench.specs.Bench.{Module, Bench, moduleAt, isLive, bookOf, frameOf, ownerOf}
-use Rattle.bench.specs.Demands.{isTick, tickCount}
+use Rattle.bench.specs.Demands.{isTick, tickCount, MessageIn, justAsked, atMoment}
 use Rattle.bench.specs.Events.{Event, asks, gives, sends, ticks, dies, step, run, isAccepted, isNext, named, dead, withNode}
 use Rattle.bench.specs.Rules.{one}
 use Rattle.bench.proofs.laws.SlotAfterCall.{asking, hear-counter, tick-counter, ask-counter, giving, next-counter}
@@ -18,6 +18,12 @@ use Rattle.bench.proofs.laws.ModuleAfterEvent.{hearsFrame, tickedLive, 
 pub run-append : (xs ys : List Event) (b : Bench) → run b (xs ++ ys) ≡ run (run b xs) ys
 run-append [] ys b = refl
 run-append (e ∷ es) ys b = run-append es ys (step b e)
+
+-- from a message's moment to the end
+pub to-the-end : (b₀ : Bench) (h : List Event) (m : MessageIn b₀ h) → run b₀ h ≡ run (atMoment b₀ h m) (m .rest)
+to-the-end b₀ h m =
+    ap (run b₀) (m .split)
+    ∙ (run-append (m .before) (asks (m .sender) (m .stream) (m .payload) ∷ (m .since ++ m .rest)) b₀ ∙ run-append (m .since) (m .rest) (justAsked b₀ h m))
 
 pub live-back : (b : Bench) (e : Event) (i : ℕ) → T (isLive i (step b e)) → T (isLive i b)
 live-back b e i t = go e (subst (λ (m : Module). T (m .live)) (module-step b e i) t)

@@ -22,9 +22,13 @@ use Rattle.node.specs.Tick as Tick
 use Rattle.one_stream.proofs.Chain.{Works}
 use Rattle.one_stream.specs.Sendings as OS
 use Rattle.one_stream.specs.Classes as OC
-use Rattle.bench.specs.Bench.{Frame}
-use Rattle.bench.specs.Rules.{wasSent}
+use Rattle.bench.specs.Bench.{Frame, Book, Bench, settingsOf, Which, theConfirmation}
+use Rattle.bench.specs.Rules.{wasSent, rule1, rule3}
 use Rattle.bench.proofs.message.SendingsSeen.{toSent}
+
+-- a frame may be sent by rules 1 and 3
+abbrev pub maySend : Bench → Stream → Book → Which → Bool
+maySend b s k w = rule1 b k w && rule3 b s k w
 
 -- ── a stream's numbers, as the one-stream proof has them ──
 -- live modules count alike, so that nothing drifts; no class has the fifth delay yet
@@ -43,10 +47,16 @@ pub record Receiving (n : ℕ) (D : OS.Delays) (now : ℕ) (x : Slot) : Type 0 w
   pub settings : OfClass n D (x .settings)
   pub kept : KeptSlot now x
 
--- what the class sees of a slot: what is held in it, and whether a frame of code 2 is pending
-pub record Shows {H : Type 0} (held : Slot → H) (h : H) (pending : Bool) (x : Slot) : Type 0 where
-  pub holds : held x ≡ h
-  pub pends : x .pending .abort ≡ pending
+-- a frame of code 2 became pending between two slots, as the books see it
+abbrev pub newly : (before after : Slot) → Bool
+newly x y = y .pending .abort && not (x .pending .abort)
+
+-- what an event makes of a receive slot x, as the class has it: y holds h, and a frame of code 2 was caused or not
+pub record Becomes (C : OC.Class) (held : Slot → C .Slot) (x : Slot) (h : C .Slot) (caused : Bool) (y : Slot) : Type 0 where
+  pub holds : held y ≡ h
+  pub pends : y .pending .abort ≡ (x .pending .abort || caused)
+  pub enters : newly x y ≡ (caused && not (C .merges && x .pending .abort))
+  pub carries : T (y .pending .abort) → payloadFor 2 y ≡ cond (newly x y) (C .payload (held x)) (payloadFor 2 x)
 
 -- ── the class with this number, where its delays are D ──
 pub record ClassOnBench (n : ℕ) (D : OS.Delays) : Type 1 where
@@ -55,33 +65,32 @@ pub record ClassOnBench (n : ℕ) (D : OS.Delays) : Type 1 where
   -- what the class sees held in a receive slot; where nothing is, it is idle
   pub held : Slot → C .Slot
   pub idle : (x : Slot) → x .message .held ≡ false → held x ≡ C .idle
-  -- its frames have the codes 0 to 2; one of code 2 carries what the node gives out, and is not refused as a bad frame
+  -- its frames have the codes 0 to 2, and one of code 2 is not refused as a bad frame
   pub carries : (code : ℕ) → code ≤ 2 → wire.carries n code ≡ true
-  pub gives : (x : Slot) (p : List ℕ) → payloadFor 2 x ≡ C .carried p
   pub good : (s : Stream) → s .0 ≤ maxStream → (p : List ℕ) → length p ≤ maxPayload
       → badFrame (idOf s 2) (length (C .carried p)) (length (C .carried p)) ≡ false
   -- data, a confirmation, a frame of code 2 is heard
   pub onData : (now : ℕ) (x : Slot) → Receiving n D now x → (p : List ℕ)
-      → Shows held (C .onData now p (held x)) (x .pending .abort) (cond (not (clashes 0 p x)) (heardBy now 0 p x) x)
+      → Becomes C held x (C .onData now p (held x)) false (cond (not (clashes 0 p x)) (heardBy now 0 p x) x)
   pub onConf : (now : ℕ) (x : Slot) → Receiving n D now x
-      → Shows held (C .onConf (held x)) (x .pending .abort || C .refuses (held x)) (cond (not (clashes 1 [] x)) (heardBy now 1 [] x) x)
+      → Becomes C held x (C .onConf (held x)) (C .refuses (held x)) (cond (not (clashes 1 [] x)) (heardBy now 1 [] x) x)
   pub onCode2 : (now : ℕ) (x : Slot) → Receiving n D now x → (p : List ℕ) → (let b = C .carried p in
-      Shows held (C .onCode2 now b (held x)) (x .pending .abort) (cond (not (clashes 2 b x)) (heardBy now 2 b x) x))
-  -- a frame of code 2 is given out
-  pub onGiven : (now : ℕ) (x : Slot) → Receiving n D now x → Shows held (C .onGiven (held x)) false (givenOut 2 x)
+      Becomes C held x (C .onCode2 now b (held x)) false (cond (not (clashes 2 b x)) (heardBy now 2 b x) x))
+  -- a frame of code 2 is given out, and then none is pending
+  pub onGiven : (now : ℕ) (x : Slot) → Receiving n D now x → (held (givenOut 2 x) ≡ C .onGiven (held x)) × (givenOut 2 x .pending .abort ≡ false)
   -- a tick: what it makes of the slot, and what it delivers
   pub onTick : (now : ℕ) (x : Slot) → Receiving n D now x
-      → Shows held (C .onTick (now + 1) (held x)) (x .pending .abort || C .late (now + 1) (held x)) (Tick.tickSlot unbounded (now + 1) x)
+      → Becomes C held x (C .onTick (now + 1) (held x)) (C .late (now + 1) (held x)) (Tick.tickSlot unbounded (now + 1) x)
   pub due : (now : ℕ) (x : Slot) → Receiving n D now x → Tick.due (now + 1 - x .message .stamp) x ≡ C .due (now + 1) (held x)
   pub delivers : (now : ℕ) (x : Slot) → Receiving n D now x → T (C .due (now + 1) (held x)) → payloadOf (x .message) ≡ C .held (held x)
   -- the sender's hold
   pub hold : (x : Slot) → T (isSender x) → OfClass n D (x .settings) → (age : ℕ)
       → Tick.holdOver age x ≡ (x .message .held && ltb (C .hold) age)
-  -- as the rules have it today: a confirmation follows any sending of the data, and a frame of code 2 is served by any sending
-  pub ready : (f : Frame) → T (wasSent f) → C .Ready (toSent (f .sendings))
+  -- the rules: what data a confirmation may follow, and that a frame of code 2 is served by any sending
+  pub ready : (b : Bench) (s : Stream) (k : Book) → OfClass n D (settingsOf s k b) → T (maySend b s k theConfirmation)
+      → C .Ready (toSent (k .payloadFrame .sendings))
   pub done : (f : Frame) → T (wasSent f) → C .Done (toSent (f .sendings))
-  -- as the books have it today: a frame that is caused while one is pending is the same frame, and its owner is told nothing of its sendings
-  pub merges : C .merges ≡ true
+  -- the owner of a frame of code 2 is told nothing of its sendings
   pub untold : (now : ℕ) (h : C .Slot) → C .onFull now h ≡ h
 
 -- the class, for all settings that are taken

@@ -2,7 +2,7 @@
 use Prim.Native.Nat.{ℕ, _+_, _*_}
 use native.Mathlib.Omega.{arith}
 use mathlib.Core.Path.{_≡_, refl, ap, sym, subst, _∙_}
-use mathlib.Core.Logic.{inr}
+use mathlib.Core.Logic.{_⊎_, inl, inr}
 use mathlib.Core.Bool.{Bool, false, _&&_, cond}
 use mathlib.Core.List.{List, [], _∷_, map}
 use lib.Dec.{T, eqb, eqb→eq}
@@ -25,14 +25,15 @@ use Rattle.bench.specs.Events.{gives, step, onFrame, onNewest, isNext, g
 use Rattle.bench.specs.Lists.{nth, at}
 use Rattle.bench.specs.SetUp.{isDone}
 use Rattle.bench.proofs.laws.SlotAfterCall.{slot-kept, giving, IsPending, next-used, next-pending, next-own, next-bytes}
-use Rattle.bench.proofs.laws.ModuleAfterEvent.{nth-at, module-step, next-done, moved-step, asFunction}
+use Rattle.bench.proofs.laws.ModuleAfterEvent.{nth-at, module-step, next-lives, next-done, pending-receives, moved-step, asFunction}
 use Rattle.bench.proofs.laws.BooksAfterEvent.{books-given}
 use Rattle.bench.proofs.laws.FramesOfBooks.{codeIn}
 use Rattle.bench.proofs.message.ClassOnBench.{ClassOnBench}
 use Rattle.bench.proofs.message.ModuleSeen.{toFrame, not-plain}
 use Rattle.bench.proofs.message.SeenAfterOwnEvent.{Valid, not-both, strandOf}
 use Rattle.bench.proofs.message.SeenAfterGivingOut.{give-own-strand, give-code2-strand}
-use Rattle.bench.proofs.message.MessageKept.{carries, Sender, Track, send-back, pending-receives, own-moved, own-on-frame}
+use Rattle.bench.proofs.message.PayloadKept.{carrying-given}
+use Rattle.bench.proofs.message.MessageKept.{carries, Sender, Track, send-back, own-moved, own-on-frame}
 use Rattle.wire.specs.Settings as wire
 use Rattle.one_stream.specs.Sendings as OS
 use Rattle.one_stream.specs.Frames as OF
@@ -124,10 +125,10 @@ module _ {n : ℕ} {D : OS.Delays} (K : ClassOnBench n D) (s : Stream) (me : ℕ
 
     -- the book and everything but the strand
     given : (w : Which) → whichOf j c ≡ w → codeIn w ≡ c → giving node .bytes ≡ carries K p c
-        → (a : Bool)
+        → (isReceiver slot ≡ false) ⊎ (c ≡ 2) × T (isReceiver slot) → (a : Bool)
         → Inv D (K .C) (K .works) (strandOf K s me p (After c) (onFrame w (gaveOut (next j b)) (x .k)) (x .hold)) a base
         → Follows (After c)
-    given w which code bytes a inv =
+    given w which code bytes by a inv =
         record {
           k = onFrame w (gaveOut (next j b)) (x .k);
           ks = x .ks;
@@ -140,6 +141,7 @@ module _ {n : ℕ} {D : OS.Delays} (K : ClassOnBench n D) (s : Stream) (me : ℕ
           hold = x .hold;
           sender = sender-given;
           old = λ n w h. x .old n w (send-back s b (gives j s c) (v .nodes) (nth noBook n (x .ks)) w h);
+          carrying = carrying-given K s me p b v (x .carrying) j c t by;
           a = a;
           inv = inv;
         }
@@ -174,17 +176,17 @@ module _ {n : ℕ} {D : OS.Delays} (K : ClassOnBench n D) (s : Stream) (me : ℕ
           let isMe = data-sender (given-used 0 t) y in
           let bytes = given-bytes 0 t ∙ subst (λ i. payloadOf (slotAt s i b .message) ≡ p) (sym isMe)
           (x .sender .payload (subst (λ i. T (slotAt s i b .pending .payload)) isMe y)) in
-          given 0 t thePayload refl refl bytes (x .a)
+          let other = sends-not-receives (so (kept .pending .payload-sent (is-true (slot .pending .payload) y))) in
+          given 0 t thePayload refl refl bytes (inl other) (x .a)
           (subst (λ Z. Inv D (K .C) (K .works) Z (x .a) base)
-          (give-own-strand K s me p b v j 0 t (x .k) (onFrame thePayload (gaveOut (next j b)) (x .k)) refl refl refl (x .hold)
-          (sends-not-receives (so (kept .pending .payload-sent (is-true (slot .pending .payload) y)))) refl refl) (x .inv))
+          (give-own-strand K s me p b v j 0 t (x .k) (onFrame thePayload (gaveOut (next j b)) (x .k)) refl refl refl (x .hold) other refl refl) (x .inv))
 
       conf-given : T (slot .pending .confirmation) → T (isNext j s 1 b) → Follows (After 1)
       conf-given y t =
-          given 1 t theConfirmation refl refl (given-bytes 1 t) (x .a)
+          let other = sends-not-receives (so (kept .pending .confirmation-sent (is-true (slot .pending .confirmation) y) .0)) in
+          given 1 t theConfirmation refl refl (given-bytes 1 t) (inl other) (x .a)
           (subst (λ Z. Inv D (K .C) (K .works) Z (x .a) base)
-          (give-own-strand K s me p b v j 1 t (x .k) (onFrame theConfirmation (gaveOut (next j b)) (x .k)) refl refl refl (x .hold)
-          (sends-not-receives (so (kept .pending .confirmation-sent (is-true (slot .pending .confirmation) y) .0))) refl refl) (x .inv))
+          (give-own-strand K s me p b v j 1 t (x .k) (onFrame theConfirmation (gaveOut (next j b)) (x .k)) refl refl refl (x .hold) other refl refl) (x .inv))
 
       toFrames : List Frame → List OF.Frame
       toFrames fs = map (toFrame (K .C .carried p)) fs
@@ -203,10 +205,11 @@ module _ {n : ℕ} {D : OS.Delays} (K : ClassOnBench n D) (s : Stream) (me : ℕ
       code2-given y t =
           let r = act-keeps D (K .C) (K .works) (strandOf K s me p b (x .k) (x .hold)) (x .a) base (x .inv) (OH.on (OC.give j)) tt
           tt in
-          given 2 t (theAbort j 0) refl refl (given-bytes 2 t ∙ K .gives slot p) (r .0)
+          let receives = pending-receives s node (v .nodes j) y in
+          given 2 t (theAbort j 0) refl refl (given-bytes 2 t ∙ x .carrying j (next-lives b j s 2 t) y) (inr (refl, receives)) (r .0)
           (subst (λ Z. Inv D (K .C) (K .works) Z (r .0) base)
           (give-code2-strand K s me p b v j 2 t (x .k) (onFrame (theAbort j 0) (gaveOut (next j b)) (x .k)) refl refl refl (x .hold) refl
-          (pending-receives s node (v .nodes j) y) code2-rows) (r .1))
+          receives code2-rows) (r .1))
 
       go : {d : ℕ} → IsPending slot d → d ≡ c → Follows (After c)
       go (Laws.thePayload y) e =

@@ -1,47 +1,47 @@
 -- What is known of a stream from an accepted request on, and that every event keeps it: the newest book, its strand with the
--- one-stream invariant, the sender's slot, and that nothing of older messages may be sent.
-use Prim.Native.Nat.{ℕ, _+_, _-_, _≤_}
+-- one-stream invariant, the sender's slot, what pending frames of code 2 carry, and that nothing of older messages may be sent.
+use Prim.Native.Nat.{ℕ, suc, _+_, _-_, _≤_}
 use native.Mathlib.Omega.{arith}
 use mathlib.Core.Path.{_≡_, refl, ap, sym, subst, _∙_}
 use mathlib.Core.Logic.{inl, inr}
 use mathlib.Core.Bool.{Bool, true, false, not, _&&_, _||_, cond}
 use mathlib.Core.List.{List, [], _∷_}
 use lib.ListN.{length}
+use native.Mathlib.Numerals.{add-one}
 use lib.Dec.{T, ltb, leb, eqb, leb→le, le→leb, T-not}
 use Rattle.wire.specs.declared.ids.Stream.{Stream}
 use Rattle.wire.specs.declared.settings.Settings.{Settings}
 use Rattle.node.specs.declared.slots.Slot.{Slot}
-use Rattle.node.specs.declared.Node.{Node}
 use Rattle.wire.specs.Frames.{maxPayload}
 use Rattle.wire.specs.Identifiers.{idOf}
-use Rattle.wire.specs.Settings.{receives, isPlain, legal}
+use Rattle.wire.specs.Settings.{receives, isPlain}
 use Rattle.node.specs.Clock.{unbounded}
-use Rattle.node.specs.Nodes.{slotOf, given}
+use Rattle.node.specs.Nodes.{slotOf}
 use Rattle.node.specs.Reachable.{Kept}
 use Rattle.node.specs.Slots.{isReceiver, isSender, payloadOf}
 use Rattle.node.specs.Tick.{late, due, holdOver, lapsed}
 use Rattle.node.proofs.slots.Streams.{Kind}
 use Rattle.one_stream.proofs.Books.{Paced}
 use Rattle.one_stream.proofs.Chain.{Inv, stretch, act-keeps, message-step}
-use Rattle.one_stream.proofs.Truth.{cond-elim, cond-false, and-l, and-r, both, is-true, is-false, so, not-so}
+use Rattle.one_stream.proofs.Truth.{cond-elim, cond-false, and-l, and-r, both, is-false, so, not-so}
 use Rattle.bench.specs.Bench.{Module, Bench, Book, Frame, Sendings, never, sent, pendingSince, noBook, moduleAt, isLive, slotAt, now}
 use Rattle.bench.specs.Bench.{bookOf, booksOf, frameOf, ownerOf, settingsOf, Which, thePayload, theConfirmation, theAbort, Moment}
 use Rattle.bench.specs.Events.{Event, sends, ticks, dies, step, ticked, named, isFull, To, sentOnce, onFrame, onNewest, becamePending}
-use Rattle.bench.specs.Events.{moved}
 use Rattle.bench.specs.Lists.{nth, at}
 use Rattle.bench.specs.Rules.{may, rule1, rule3, inTurn, inReach, within, wasFull}
-use Rattle.bench.proofs.laws.SlotAfterCall.{slot-kept, tick-slot}
-use Rattle.bench.proofs.laws.ModuleAfterEvent.{nth-at, tickedLive, module-step, dead-node, deaf, moved-step, Elsewhere, untouched-step, length-at}
-use Rattle.bench.proofs.laws.ModuleAfterEvent.{size-step, countOf, asFunction, Later, later-step}
+use Rattle.bench.proofs.laws.SlotAfterCall.{tick-slot}
+use Rattle.bench.proofs.laws.ModuleAfterEvent.{nth-at, hearsFrame, tickedLive, module-step, dead-node, deaf, pending-receives, moved-step, Elsewhere}
+use Rattle.bench.proofs.laws.ModuleAfterEvent.{untouched-step, length-at, size-step, countOf, asFunction, Later, later-step}
 use Rattle.bench.proofs.laws.BooksAfterEvent.{entering, books-ticked, books-dead}
 use Rattle.bench.proofs.laws.FramesOfBooks.{codeIn, AllFrames, all-on-frame, all-entering}
-use Rattle.bench.proofs.message.ClassOnBench.{ClassOnBench}
-use Rattle.bench.proofs.message.ModuleSeen.{view}
+use Rattle.bench.proofs.message.ClassOnBench.{maySend, Becomes, ClassOnBench}
+use Rattle.bench.proofs.message.ModuleSeen.{view, Carries, carries-on}
 use Rattle.bench.proofs.message.StreamSeen.{row-enter, length-enter}
-use Rattle.bench.proofs.message.SeenAfterOwnEvent.{Valid, not-both, strandOf, lives, Bytes, tick-strand, bookAfter, books-after, data-strand}
-use Rattle.bench.proofs.message.SeenAfterOwnEvent.{conf-strand, code2-strand}
+use Rattle.bench.proofs.message.SeenAfterOwnEvent.{Valid, not-both, strandOf, lives, Bytes, caused-bytes, tick-strand, bookAfter}
+use Rattle.bench.proofs.message.SeenAfterOwnEvent.{books-after, data-strand, conf-strand, code2-strand, data-heard, conf-heard, code2-heard}
+use Rattle.bench.proofs.message.PayloadKept.{Carrying, carrying-same, carrying-sent, carrying-ticked}
 use Rattle.bench.proofs.message.SeenAfterOtherEvent.{die-other-strand, die-own-strand, else-strand}
-use Rattle.bench.proofs.message.RulesSeen.{maySend, was-given, legal-data, legal-conf, legal-code2, legal-tick}
+use Rattle.bench.proofs.message.RulesSeen.{was-given, legal-data, legal-conf, legal-code2, legal-tick}
 use Rattle.one_stream.proofs.Sendings.{move-reached}
 use Rattle.one_stream.specs.Sendings as OS
 use Rattle.one_stream.specs.Classes as OC
@@ -79,6 +79,7 @@ pub record Track {n : ℕ} {D : OS.Delays} (K : ClassOnBench n D) (s : Stream) (
   pub hold : Bool
   pub sender : Sender s me since p b hold
   pub old : (n : ℕ) (w : Which) → T (maySend b s (nth noBook n ks) w) → ⊥
+  pub carrying : Carrying K s p b
   pub a : Bool
   pub inv : Inv D (K .C) (K .works) (strandOf K s me p b k hold) a base
 
@@ -133,17 +134,6 @@ send-back s b e kept-nodes k w =
 -- ── the sender's slot ──
 not-receiver : (x : Slot) → T (isSender x) → isReceiver x ≡ false
 not-receiver x t = is-false (isReceiver x) (λ r. not-both x r t)
-
--- an abort is pending at receivers alone
-pub pending-receives : (s : Stream) (n : Node) → Kept n → T (slotOf s n .pending .abort) → T (isReceiver (slotOf s n))
-pending-receives s n k t =
-    let x = slotOf s n in
-    let ks = slot-kept s n k in
-    both (x .used) (receives (x .settings)) (used (x .used) refl) (so (ks .pending .abort-received (is-true (x .pending .abort) t) .0))
-  where
-    used : (u : Bool) → slotOf s n .used ≡ u → T (slotOf s n .used)
-    used true e = so e
-    used false e = absurd (subst (λ (y : Slot). T (y .pending .abort)) (slot-kept s n k .free e) t)
 
 -- ── the newest book ──
 module _ {n : ℕ} {D : OS.Delays} (K : ClassOnBench n D) (s : Stream) (me : ℕ) (since : Moment) (p : List ℕ) (b : Bench) (v : Valid n D s me b)
@@ -250,6 +240,7 @@ module _ {n : ℕ} {D : OS.Delays} (K : ClassOnBench n D) (s : Stream) (me : ℕ
         hold = x .hold;
         sender = sender-same e (untouched-step s b e els me .slot);
         old = old-step e;
+        carrying = carrying-same K s me p b v (x .carrying) e (λ i. untouched-step s b e els i .slot);
         a = x .a;
         inv = subst (λ Z. Inv D (K .C) (K .works) Z (x .a) base) (else-strand K s me p b e els (x .k) (x .hold)) (x .inv);
       }
@@ -264,11 +255,17 @@ module _ {n : ℕ} {D : OS.Delays} (K : ClassOnBench n D) (s : Stream) (me : ℕ
       (not-receiver (slotAt s me b) (v .sender .0)))
       (λ t. refl)
 
+  -- the book in the bench is the newest
+  newest-is : bookOf s 0 b ≡ x .k
+  newest-is = ap (nth noBook 0) (x .books)
+
   after-sending : (w : Which) (to : To) (a : Bool)
+      → ((i : ℕ) → T (isLive i b) → T (isReceiver (slotAt s i b)) → T (named to i)
+      → Carries K (K .C .carried p) (slotAt s i b) → Carries K (K .C .carried p) (slotOf s (hearsFrame (frameOf w (x .k)) (moduleAt i b) .node)))
       → Inv D (K .C) (K .works) (strandOf K s me p (step b (sends s 0 w to)) (bookAfter K s me p b v (x .k) (x .ks) (x .books) to w)
       (x .hold)) a base
       → Follows (step b (sends s 0 w to))
-  after-sending w to a inv =
+  after-sending w to a heard inv =
       record {
         k = bookAfter K s me p b v (x .k) (x .ks) (x .books) to w;
         ks = x .ks;
@@ -279,6 +276,10 @@ module _ {n : ℕ} {D : OS.Delays} (K : ClassOnBench n D) (s : Stream) (me : ℕ
         hold = x .hold;
         sender = sender-same (sends s 0 w to) (send-slot w to);
         old = old-step (sends s 0 w to);
+        carrying =
+            carrying-sent K s me p b v (x .carrying) w to
+            (λ i live r name old.
+            subst (λ k. Carries K (K .C .carried p) (slotOf s (hearsFrame (frameOf w k) (moduleAt i b) .node))) (sym newest-is) (heard i live r name old));
         a = a;
         inv = inv;
       }
@@ -291,30 +292,43 @@ module _ {n : ℕ} {D : OS.Delays} (K : ClassOnBench n D) (s : Stream) (me : ℕ
       (K .works .causeNew w (x .a) base (x .inv .books) (x .inv .slots) e l paced i c)
       ∙ ap (K .C .carried) (message-step D (K .C) (K .works) w e)
 
+  -- a receiver that hears still carries what it did, and what it was made to
+  still-carries : (f : Frame) (i : ℕ) {h : K .C .Slot} {caused : Bool} → (let x = slotAt s i b in let y = slotOf s (hearsFrame f (moduleAt i b) .node) in
+      Becomes (K .C) (K .held) x h caused y → (T caused → K .C .payload (K .held x) ≡ K .C .carried p)
+      → Carries K (K .C .carried p) x → Carries K (K .C .carried p) y)
+  still-carries f i = carries-on K (K .C .carried p) (slotAt s i b) (slotOf s (hearsFrame f (moduleAt i b) .node))
+
   pub track-send : (w : Which) (to : To) → T (maySend b s (x .k) w) → Follows (step b (sends s 0 w to))
   track-send thePayload to t =
       let c = x .own .content thePayload (was-given b s (x .k) thePayload t) in
       let r = act-keeps D (K .C) (K .works) Z₀ (x .a) base (x .inv) (OH.on (OC.sendData (named to) (isFull to)))
       (tt, legal-data K s me p b v (x .k) (x .own .sender) (x .hold) to t) tt in
       after-sending thePayload to (r .0)
+      (λ i live receives name. still-carries (x .k .payloadFrame) i
+      (data-heard K s me p b v (x .k) (x .ks) (x .books) to (x .own .size) (x .own .sender) (c .0) (c .1) (x .sender .short) i receives) (λ t. absurd t))
       (subst (λ Z. Inv D (K .C) (K .works) Z (r .0) base)
       (data-strand K s me p b v (x .k) (x .ks) (x .books) to (x .own .size) (x .own .sender) (c .0) (c .1) (x .sender .short) (x .hold)) (r .1))
   track-send theConfirmation to t =
       let c = x .own .content theConfirmation (was-given b s (x .k) theConfirmation t) in
       let legal = legal-conf K s me p b v (x .k) (x .own .sender) (x .hold) to t in
+      let pends = bytes (OC.sendConf (named to) (isFull to)) legal tt in
       let r = act-keeps D (K .C) (K .works) Z₀ (x .a) base (x .inv) (OH.on (OC.sendConf (named to) (isFull to))) legal tt in
       after-sending theConfirmation to (r .0)
+      (λ i live receives name. still-carries (x .k .confirmation) i
+      (conf-heard K s me p b v (x .k) (x .ks) (x .books) to (x .own .size) (x .own .sender) (c .0) (c .1) pends i receives)
+      (λ refuses. caused-bytes K s me p b v (x .k) (x .own .size) i (named to i) (K .C .refuses) live receives name refuses (pends i)))
       (subst (λ Z. Inv D (K .C) (K .works) Z (r .0) base)
-      (conf-strand K s me p b v (x .k) (x .ks) (x .books) to (x .own .size) (x .own .sender) (c .0) (c .1)
-      (bytes (OC.sendConf (named to) (isFull to)) legal tt) (x .hold)) (r .1))
+      (conf-strand K s me p b v (x .k) (x .ks) (x .books) to (x .own .size) (x .own .sender) (c .0) (c .1) pends (x .hold)) (r .1))
   track-send (theAbort q y) to t =
-      let c = x .own .content (theAbort q y) (was-given b s (x .k) (theAbort q y) t) in
+      let given = was-given b s (x .k) (theAbort q y) t in
+      let c = x .own .content (theAbort q y) given in
       let r = act-keeps D (K .C) (K .works) Z₀ (x .a) base (x .inv) (OH.on (OC.sendCode2 q y (named to) (isFull to)))
       (legal-code2 K s me p b v (x .k) (x .own .sender) (x .hold) (x .own .rows) q y to t) tt in
       after-sending (theAbort q y) to (r .0)
+      (λ i live receives name. still-carries (frameOf (theAbort q y) (x .k)) i
+      (code2-heard K s me p b v (x .k) (x .ks) (x .books) to (x .own .size) q y given (c .0) (c .1) (x .sender .short) i receives) (λ t. absurd t))
       (subst (λ Z. Inv D (K .C) (K .works) Z (r .0) base)
-      (code2-strand K s me p b v (x .k) (x .ks) (x .books) to (x .own .size) q y (was-given b s (x .k) (theAbort q y) t) (c .0) (c .1)
-      (x .sender .short) (x .hold)) (r .1))
+      (code2-strand K s me p b v (x .k) (x .ks) (x .books) to (x .own .size) q y given (c .0) (c .1) (x .sender .short) (x .hold)) (r .1))
 
   -- ── a death ──
   pub track-death : (j : ℕ) → Follows (step b (dies j))
@@ -330,6 +344,7 @@ module _ {n : ℕ} {D : OS.Delays} (K : ClassOnBench n D) (s : Stream) (me : ℕ
             hold = x .hold;
             sender = sender-same (dies j) (ap (slotOf s) (dead-node b j me));
             old = old-step (dies j);
+            carrying = carrying-same K s me p b v (x .carrying) (dies j) (λ i. ap (slotOf s) (dead-node b j i));
             a = a;
             inv = inv;
           }
@@ -430,6 +445,7 @@ module _ {n : ℕ} {D : OS.Delays} (K : ClassOnBench n D) (s : Stream) (me : ℕ
       unfold view in record { receivers = λ i l. and-l (isLive i b) (isReceiver (slotAt s i b)) l; sender = λ l. l } in
       let legal = legal-tick K s me p b v (x .k) (x .own .sender) (x .hold) (x .ks) (x .books) t in
       let even = stretch D (K .C) (K .works) Z₀ (x .a) base (x .inv) (lives K s me p b) (inl common) .receivers in
+      let pends = bytes (OC.tick (lives K s me p b)) legal even in
       let r = act-keeps D (K .C) (K .works) Z₀ (x .a) base (x .inv) (OH.ticks (lives K s me p b)) (inl common, legal) tt in
       record {
         k = entering s (b .modules) (step b ticks .modules) (x .k);
@@ -439,7 +455,12 @@ module _ {n : ℕ} {D : OS.Delays} (K : ClassOnBench n D) (s : Stream) (me : ℕ
         hold = hold′;
         sender = sender-ticked;
         old = old-step ticks;
+        carrying =
+            carrying-ticked K s me p b v (x .carrying)
+            (λ i live receives late.
+            caused-bytes K s me p b v (x .k) (x .own .size) i (isLive i b) (K .C .late (suc (countOf b i))) live receives live
+            (subst (λ t. T (K .C .late t (K .held (slotAt s i b)))) (add-one (countOf b i)) late) (pends i));
         a = r .0;
         inv = subst (λ Z. Inv D (K .C) (K .works) Z (r .0) base)
-            (tick-strand K s me p b v (x .k) (x .own .size) (bytes (OC.tick (lives K s me p b)) legal even) (x .hold)) (r .1);
+            (tick-strand K s me p b v (x .k) (x .own .size) pends (x .hold)) (r .1);
       }

@@ -17,18 +17,19 @@ use Rattle.wire.specs.Identifiers.{idOf, streamOf, codeOf, maxStream, maxBusId}
 use Rattle.wire.specs.Settings.{receives, isPlain}
 use Rattle.node.specs.Clock.{unbounded}
 use Rattle.node.specs.Hear.{clashes, heardBy}
+use Rattle.node.specs.NextFrame.{payloadFor}
 use Rattle.node.specs.Nodes.{slotOf}
 use Rattle.node.specs.Reachable.{Kept}
 use Rattle.node.specs.Slots.{isReceiver}
 use Rattle.node.specs.Tick.{late, due, holdOver, lapsed, tickSlot}
 use Rattle.node.proofs.slots.Streams.{Kind, kindOf}
-use Rattle.one_stream.proofs.Truth.{is-true, is-false, not-so}
+use Rattle.one_stream.proofs.Truth.{is-true, is-false, so, not-so}
 use Rattle.bench.specs.Bench.{Module, Frame, Delivery}
 use Rattle.bench.specs.Events.{onto, deliveries}
 use Rattle.bench.proofs.laws.SlotAfterCall.{same-stream, slot-kept, hearing, hear-own, ticking, tick-slot, onStream, deliveryOf, tick-delivers}
-use Rattle.bench.proofs.laws.ModuleAfterEvent.{hear-kind, tick-kind, asFunction}
+use Rattle.bench.proofs.laws.ModuleAfterEvent.{asFunction}
 use Rattle.bench.proofs.message.SendingsSeen.{toSent}
-use Rattle.bench.proofs.message.ClassOnBench.{OfClass, Receiving, Shows, ClassOnBench}
+use Rattle.bench.proofs.message.ClassOnBench.{OfClass, Receiving, newly, Becomes, ClassOnBench}
 use Rattle.one_stream.specs.Sendings as OS
 use Rattle.one_stream.specs.Frames as OF
 use Rattle.one_stream.specs.Classes as OC
@@ -81,9 +82,30 @@ module _ {n : ℕ} {D : OS.Delays} (K : ClassOnBench n D) where
       go false e = refl
 
   -- what the class says of a changed slot, where its stream and settings stay
-  pub shows-looks : (x y : Slot) {h : K .C .Slot} {p : Bool} → kindOf y ≡ kindOf x → Shows (K .held) h p y → Looks (isReceiver x) h p y
-  shows-looks x y kind s =
-      record { receiver = ap (λ (k : Kind). k .used && receives (k .settings)) kind; held = λ t. s .holds; pending = s .pends }
+  pub looks-at : (x y : Slot) {h : K .C .Slot} {p : Bool} → kindOf y ≡ kindOf x → K .held y ≡ h → y .pending .abort ≡ p → Looks (isReceiver x) h p y
+  looks-at x y kind holds pends =
+      record { receiver = ap (λ (k : Kind). k .used && receives (k .settings)) kind; held = λ t. holds; pending = pends }
+
+  -- ── what a pending frame of code 2 carries ──
+  abbrev pub Carries : List ℕ → Slot → Type 0
+  Carries bytes x = T (x .pending .abort) → payloadFor 2 x ≡ bytes
+
+  pub carries-on : (bytes : List ℕ) (x y : Slot) {h : K .C .Slot} {caused : Bool} → Becomes (K .C) (K .held) x h caused y
+      → (T caused → K .C .payload (K .held x) ≡ bytes) → Carries bytes x → Carries bytes y
+  carries-on bytes x y {h} {caused} k new old pending =
+      k .carries pending ∙ go (x .pending .abort) refl caused (λ t. t) (subst T (k .pends) pending) (newly x y) (k .enters)
+    where
+      go : (p : Bool) → x .pending .abort ≡ p → (c : Bool) → (T c → T caused) → T (p || c) → (e : Bool) → e ≡ (c && not (K .C .merges && p))
+          → cond e (K .C .payload (K .held x)) (payloadFor 2 x) ≡ bytes
+      go p ep true fro t true e = new (fro tt)
+      go p ep false fro t true e = absurd (true≢false e)
+      go true ep c fro t false e = old (so ep)
+      go false ep true fro t false e = absurd (true≢false (ap not (sym (and-none (K .C .merges))) ∙ sym e))
+        where
+          and-none : (m : Bool) → (m && false) ≡ false
+          and-none true = refl
+          and-none false = refl
+      go false ep false fro t false e = absurd t
 
   -- no class that carries data is plain
   pub not-plain : {set : Settings} → OfClass n D set → isPlain set ≡ false
@@ -157,39 +179,36 @@ module _ {n : ℕ} {D : OS.Delays} (K : ClassOnBench n D) (s : Stream) (node : N
           subst (λ m. carries m c ≡ true) (sym (eqb→eq (x .settings .class) n (of r .class))) (K .carries c code) in
           rw (good, is-true (isReceiver x) r, carried) refl
 
-  heard-looks : (c : ℕ) → c ≤ 2 → (b : List ℕ) → badFrame (idOf s c) (length b) (length b) ≡ false → T (isReceiver x)
-      → {h : K .C .Slot} {p : Bool} → Shows (K .held) h p (cond (not (clashes c b x)) (heardBy (node .counter) c b x) x)
-      → Looks K (isReceiver x) h p (slotOf s (hearing (idOf s c) b node .node))
-  heard-looks c code b good r {h} {p} shows =
-      shows-looks K x (slotOf s (hearing (idOf s c) b node .node)) (hear-kind s (idOf s c) b node)
-      (subst (Shows (K .held) h p) (sym (heard-slot c code b good r)) shows)
+  heard-becomes : (c : ℕ) → c ≤ 2 → (b : List ℕ) → badFrame (idOf s c) (length b) (length b) ≡ false → T (isReceiver x)
+      → {h : K .C .Slot} {caused : Bool} → Becomes (K .C) (K .held) x h caused (cond (not (clashes c b x)) (heardBy (node .counter) c b x) x)
+      → Becomes (K .C) (K .held) x h caused (slotOf s (hearing (idOf s c) b node .node))
+  heard-becomes c code b good r {h} {caused} becomes =
+      subst (Becomes (K .C) (K .held) x h caused) (sym (heard-slot c code b good r)) becomes
 
   module _ (small : s .0 ≤ maxStream) (r : T (isReceiver x)) where
     pub heard-data : (b : List ℕ) → length b ≤ maxPayload
-        → Looks K (isReceiver x) (K .C .onData (node .counter) b (K .held x)) (x .pending .abort) (slotOf s (hearing (idOf s 0) b node .node))
+        → Becomes (K .C) (K .held) x (K .C .onData (node .counter) b (K .held x)) false (slotOf s (hearing (idOf s 0) b node .node))
     heard-data b short =
-        heard-looks 0 (omega arith) b (good-frame s 0 b small (omega arith) short (λ c. let z : ⊥ = omega arith in absurd z)) r
+        heard-becomes 0 (omega arith) b (good-frame s 0 b small (omega arith) short (λ c. let z : ⊥ = omega arith in absurd z)) r
         (K .onData (node .counter) x (receiving r) b)
 
-    pub heard-conf : Looks K (isReceiver x) (K .C .onConf (K .held x)) (x .pending .abort || K .C .refuses (K .held x))
-        (slotOf s (hearing (idOf s 1) [] node .node))
+    pub heard-conf : Becomes (K .C) (K .held) x (K .C .onConf (K .held x)) (K .C .refuses (K .held x)) (slotOf s (hearing (idOf s 1) [] node .node))
     heard-conf =
-        heard-looks 1 (omega arith) [] (good-frame s 1 [] small (omega arith) (omega arith) (λ c. refl)) r (K .onConf (node .counter) x (receiving r))
+        heard-becomes 1 (omega arith) [] (good-frame s 1 [] small (omega arith) (omega arith) (λ c. refl)) r (K .onConf (node .counter) x (receiving r))
 
     pub heard-code2 : (p : List ℕ) → length p ≤ maxPayload → (let b = K .C .carried p in
-        Looks K (isReceiver x) (K .C .onCode2 (node .counter) b (K .held x)) (x .pending .abort) (slotOf s (hearing (idOf s 2) b node .node)))
-    heard-code2 p short = heard-looks 2 (omega arith) (K .C .carried p) (K .good s small p short) r (K .onCode2 (node .counter) x (receiving r) p)
+        Becomes (K .C) (K .held) x (K .C .onCode2 (node .counter) b (K .held x)) false (slotOf s (hearing (idOf s 2) b node .node)))
+    heard-code2 p short = heard-becomes 2 (omega arith) (K .C .carried p) (K .good s small p short) r (K .onCode2 (node .counter) x (receiving r) p)
 
   -- ── a tick ──
   abbrev t : ℕ
   t = node .counter + 1
 
   pub ticked-receiver : T (isReceiver x)
-      → Looks K (isReceiver x) (K .C .onTick t (K .held x)) (x .pending .abort || K .C .late t (K .held x)) (slotOf s (ticking node .node))
+      → Becomes (K .C) (K .held) x (K .C .onTick t (K .held x)) (K .C .late t (K .held x)) (slotOf s (ticking node .node))
   ticked-receiver r =
-      shows-looks K x (slotOf s (ticking node .node)) (tick-kind s node)
-      (subst (Shows (K .held) (K .C .onTick t (K .held x)) (x .pending .abort || K .C .late t (K .held x))) (sym (tick-slot s node))
-      (K .onTick (node .counter) x (receiving r)))
+      subst (Becomes (K .C) (K .held) x (K .C .onTick t (K .held x)) (K .C .late t (K .held x))) (sym (tick-slot s node))
+      (K .onTick (node .counter) x (receiving r))
 
   not-late-due : isReceiver x ≡ false → (age : ℕ) → (late age x ≡ false) × (due age x ≡ false)
   unfolding late due

@@ -23,11 +23,11 @@ use Rattle.bench.proofs.laws.SlotAfterCall.{Same}
 use Rattle.bench.proofs.laws.ModuleAfterEvent.{module-step, tickedLive, refused-asks, decide-stream, countOf, asFunction}
 use Rattle.bench.proofs.laws.BooksAfterEvent.{withAborts, entering, books-asked, books-given, books-sent, books-ticked, books-dead}
 use Rattle.bench.proofs.laws.TicksCounted.{live-back, count-step}
-use Rattle.bench.proofs.message.ClassOnBench.{ClassOnBench}
+use Rattle.bench.proofs.message.ClassOnBench.{maySend, ClassOnBench}
 use Rattle.bench.proofs.message.ModuleSeen.{view, ticked-receiver, ticked-other}
 use Rattle.bench.proofs.message.StreamSeen.{enter-none}
 use Rattle.bench.proofs.message.SeenAfterOwnEvent.{Valid, valid-step, strandOf}
-use Rattle.bench.proofs.message.RulesSeen.{maySend, owner-lives, legal-data, legal-conf, legal-code2}
+use Rattle.bench.proofs.message.RulesSeen.{owner-lives, legal-data, legal-conf, legal-code2}
 use Rattle.bench.proofs.message.MessageKept.{Track}
 use Rattle.bench.proofs.message.RequestOpens.{logsOf}
 use Rattle.bench.proofs.message.ThroughHistory.{Phase, asked, opened, else-books, accepts-it, it-accepts, may-send, sends-elsewhere, track-step}
@@ -118,7 +118,7 @@ module _ {n : ℕ} {D : OS.Delays} (K : ClassOnBench n D) (s : Stream) (me : ℕ
         go false el r er = refl
         go true el false er = ticked-other K s (m .node) (v .nodes i) (v .receivers i) er .pending
         go true el true er =
-            ticked-receiver K s (m .node) (v .nodes i) (v .receivers i) (so er) .pending
+            ticked-receiver K s (m .node) (v .nodes i) (v .receivers i) (so er) .pends
             ∙ (ap (λ h. y .pending .abort || K .C .late (countOf b i + 1) h) (idle (so el) (so er))
             ∙ (ap (λ c. y .pending .abort || c) (K .works .calm (countOf b i + 1)) ∙ or-false (y .pending .abort)))
 

@@ -25,8 +25,7 @@ use Rattle.node.specs.Slots.{isReceiver, isSender, isFree, isOf, empty, first, 
 use Rattle.node.proofs.Choices.{neither}
 use Rattle.node.proofs.kept.EveryCall.{kept}
 use Rattle.one_stream.proofs.Truth.{cond-elim, and-l, and-r, both, or-l, or-r, decide, is-true, is-false, so}
-use Rattle.bench.specs.Bench.{Bench, Ledger, noBook, noModule, moduleAt, slotAt, booksIn, booksOf, frameOf, sameStream, sent}
-use Rattle.bench.specs.Events.{only}
+use Rattle.bench.specs.Bench.{Bench, Ledger, noBook, noModule, moduleAt, slotAt, booksIn, booksOf, frameOf, sameStream}
 use Rattle.bench.specs.Lists.{nth, every}
 use Rattle.bench.specs.SetUp.{Entry, Part, Plan, setUps, sameNumbers, agree, partsAgree, allAgree, allEntries, accepted, isSent}
 use Rattle.bench.specs.SetUp.{proper, withLedger, ledgersFor, moduleFor, start}
@@ -207,22 +206,11 @@ no-books z (e ∷ es) = cond-elim (λ ls. booksIn z ls ≡ []) (listed (e .strea
 -- ── two modules' settings of one stream ──
 record Alike (x y : Settings) : Type 0 where
   pub class : x .class ≡ y .class
-  pub rd : x .rd ≡ y .rd
-  pub dc : x .dc ≡ y .dc
-  pub ra : x .ra ≡ y .ra
-  pub dd : x .dd ≡ y .dd
+  pub numbers : toDelays x ≡ toDelays y
   pub one-sends : T (wire.sends x) → T (wire.sends y) → ⊥
 
 alike-sym : {x y : Settings} → Alike x y → Alike y x
-alike-sym a =
-    record {
-      class = sym (a .class);
-      rd = sym (a .rd);
-      dc = sym (a .dc);
-      ra = sym (a .ra);
-      dd = sym (a .dd);
-      one-sends = λ u v. a .one-sends v u;
-    }
+alike-sym a = record { class = sym (a .class); numbers = sym (a .numbers); one-sends = λ u v. a .one-sends v u }
 
 alike-of : (s : Stream) (e f : Entry) → e .stream ≡ s → f .stream ≡ s → T (agree e f) → Alike (e .settings) (f .settings)
 alike-of s e f p q t =
@@ -233,16 +221,14 @@ alike-of s e f p q t =
     numbers in
     let three = and-l (eqb (x .class) (y .class) && eqb (x .rd) (y .rd) && eqb (x .dc) (y .dc)) (eqb (x .ra) (y .ra)) four in
     let two = and-l (eqb (x .class) (y .class) && eqb (x .rd) (y .rd)) (eqb (x .dc) (y .dc)) three in
+    let rd = eqb→eq (x .rd) (y .rd) (and-r (eqb (x .class) (y .class)) (eqb (x .rd) (y .rd)) two) in
+    let dc = eqb→eq (x .dc) (y .dc) (and-r (eqb (x .class) (y .class) && eqb (x .rd) (y .rd)) (eqb (x .dc) (y .dc)) three) in
+    let ra = eqb→eq (x .ra) (y .ra) (and-r (eqb (x .class) (y .class) && eqb (x .rd) (y .rd) && eqb (x .dc) (y .dc)) (eqb (x .ra) (y .ra)) four) in
+    let dd = eqb→eq (x .dd) (y .dd)
+    (and-r (eqb (x .class) (y .class) && eqb (x .rd) (y .rd) && eqb (x .dc) (y .dc) && eqb (x .ra) (y .ra)) (eqb (x .dd) (y .dd)) numbers) in
     record {
       class = eqb→eq (x .class) (y .class) (and-l (eqb (x .class) (y .class)) (eqb (x .rd) (y .rd)) two);
-      rd = eqb→eq (x .rd) (y .rd) (and-r (eqb (x .class) (y .class)) (eqb (x .rd) (y .rd)) two);
-      dc = eqb→eq (x .dc) (y .dc) (and-r (eqb (x .class) (y .class) && eqb (x .rd) (y .rd)) (eqb (x .dc) (y .dc)) three);
-      ra =
-          eqb→eq (x .ra) (y .ra) (and-r (eqb (x .class) (y .class) && eqb (x .rd) (y .rd) && eqb (x .dc) (y .dc)) (eqb (x .ra) (y .ra))
-          four);
-      dd =
-          eqb→eq (x .dd) (y .dd) (and-r (eqb (x .class) (y .class) && eqb (x .rd) (y .rd) && eqb (x .dc) (y .dc) && eqb (x .ra) (y .ra))
-          (eqb (x .dd) (y .dd)) numbers);
+      numbers = λ i. record { rd = rd i; dc = dc i; ra = ra i; dd = dd i; e = 0; da = 0 };
       one-sends =
           λ u v. T-not (wire.sends x && wire.sends y) (and-r (sameNumbers x y) (not (wire.sends x && wire.sends y)) agreed)
           (both (wire.sends x) (wire.sends y) u v);
@@ -350,10 +336,7 @@ module _ (plan : Plan) (ok : T (proper plan)) (s : Stream) where
           receivers = λ i t.
               let differ : i ≡ me → ⊥ = λ e. not-both (slotAt s me b₀) (subst (λ j. T (isReceiver (slotAt s j b₀))) e t) sender in
               let a = alike i me differ (used-of (slotAt s i b₀) (inl t)) me-used in
-              record {
-                class = subst (λ c. T (eqb c n)) (sym (a .class)) of;
-                numbers = λ j. record { rd = a .rd j; dc = a .dc j; ra = a .ra j; dd = a .dd j; e = 0; da = 0 };
-              };
+              record { class = subst (λ c. T (eqb c n)) (sym (a .class)) of; numbers = a .numbers };
           sender = (sender, record { class = of; numbers = refl });
           only = λ i t. go i t (decide (eqb i me));
           ledger = listed-me;

@@ -13,22 +13,22 @@ use Rattle.node.specs.declared.slots.Message.{Message}
 use Rattle.wire.specs.Frames.{maxPayload}
 use Rattle.wire.specs.Settings.{isPlain}
 use Rattle.node.specs.Request.{requested}
-use Rattle.node.specs.Slots.{payloadOf, holding}
-use Rattle.one_stream.proofs.Chain.{Inv, Over, closed-data, closed-conf, closed-code2, hold-over, past-all, open-inv}
-use Rattle.one_stream.proofs.Truth.{cond-false, and-l, not-so}
+use Rattle.node.specs.Slots.{isReceiver, payloadOf, holding}
+use Rattle.one_stream.proofs.Chain.{Inv, Over, closed-data, closed-conf, closed-code2, hold-over, past-all, none-pending, open-inv}
+use Rattle.one_stream.proofs.Truth.{cond-false, and-l, both, not-so}
 use Rattle.bench.specs.Bench.{Module, Bench, Frame, pendingSince, noBook, moduleAt, isLive, slotAt, booksOf, now, Which, thePayload}
 use Rattle.bench.specs.Bench.{theConfirmation, theAbort, Moment}
 use Rattle.bench.specs.Events.{asks, step, isAccepted, newBook, asked, named, all}
 use Rattle.bench.specs.Lists.{nth}
 use Rattle.bench.specs.SetUp.{isDone}
-use Rattle.bench.proofs.laws.ModuleAfterEvent.{size-step, countOf, count-is}
+use Rattle.bench.proofs.laws.ModuleAfterEvent.{pending-receives, moved-step, size-step, countOf, count-is}
 use Rattle.bench.proofs.laws.BooksAfterEvent.{books-asked}
 use Rattle.bench.proofs.laws.FramesOfBooks.{AllFrames}
-use Rattle.bench.proofs.message.ClassOnBench.{ClassOnBench}
+use Rattle.bench.proofs.message.ClassOnBench.{maySend, ClassOnBench}
 use Rattle.bench.proofs.message.ModuleSeen.{notes, view, not-plain}
 use Rattle.bench.proofs.message.SeenAfterOwnEvent.{Valid, receiversOf, strandOf}
-use Rattle.bench.proofs.message.SeenAfterOtherEvent.{no-rows, asks-me, asks-short, asks-free, asked-slot, open-strand}
-use Rattle.bench.proofs.message.RulesSeen.{maySend, legal-data, legal-conf, legal-code2}
+use Rattle.bench.proofs.message.SeenAfterOtherEvent.{no-rows, asks-me, asks-short, asks-free, asked-slot, asks-pending, open-strand}
+use Rattle.bench.proofs.message.RulesSeen.{legal-data, legal-conf, legal-code2}
 use Rattle.bench.proofs.message.MessageKept.{Content, Sender, Track, send-back}
 use Rattle.one_stream.specs.Sendings as OS
 use Rattle.one_stream.specs.Classes as OC
@@ -101,12 +101,23 @@ module _ {n : ℕ} {D : OS.Delays} (K : ClassOnBench n D) (s : Stream) (me : ℕ
         hold = true;
         sender = new-sender;
         old = λ n w h. shut n w (send-back s b (asks j s p) (v .nodes) (nth noBook n (booksOf s b)) w h);
+        carrying = λ i live pending. absurd (no-pending i live pending);
         a = false;
         inv = subst (λ Z. Inv D (K .C) (K .works) Z false (logsOf s b)) (open-strand K s me p b v j t Z p₀ rows time recv sender up)
             (subst (Inv D (K .C) (K .works) (OH.act (K .C) Z (OH.opens p)) false)
             (fun-ext (λ i. ap (λ (r : ℕ → OC.Receiver (K .C)). r i .log) recv))
             (open-inv D (K .C) (K .works) Z a base inv (subst T (sym up) me-lives) free p));
       }
+    where
+      -- a live sender that is free: no live receiver has a frame of code 2 pending
+      no-pending : (i : ℕ) → T (isLive i b′) → T (slotAt s i b′ .pending .abort) → ⊥
+      no-pending i live pending =
+          let before = subst T (asks-pending K s me p b v j t i) pending in
+          let r = pending-receives s (moduleAt i b .node) (v .nodes i) before in
+          let here = both (isLive i b) (isReceiver (slotAt s i b)) (moved-step s b (asks j s p) i (v .nodes i) .live live) r in
+          none-pending D (K .C) (K .works) Z a base inv (subst T (sym up) me-lives) free i
+          (subst (λ (rs : ℕ → OC.Receiver (K .C)). T (rs i .live)) (sym recv) here)
+          (subst (λ (rs : ℕ → OC.Receiver (K .C)). T (rs i .pending)) (sym recv) before)
 
 -- ── the next message of a stream ──
 module _ {n : ℕ} {D : OS.Delays} (K : ClassOnBench n D) (s : Stream) (me : ℕ) (since : Moment) (p₀ : List ℕ) (base : ℕ → List OC.Note) (b : Bench)

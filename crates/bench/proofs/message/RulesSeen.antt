@@ -18,7 +18,7 @@ use Rattle.bench.specs.Rules.{may, rule1, rule3, inTurn, inReach, within
 use Rattle.bench.proofs.laws.SlotAfterCall.{same-stream}
 use Rattle.bench.proofs.laws.ModuleAfterEvent.{countOf, asFunction, count-is}
 use Rattle.bench.proofs.message.SendingsSeen.{toSent, was-full, was-sent, fullness, within-all}
-use Rattle.bench.proofs.message.ClassOnBench.{toDelays, OfClass, ClassOnBench}
+use Rattle.bench.proofs.message.ClassOnBench.{maySend, toDelays, OfClass, ClassOnBench}
 use Rattle.bench.proofs.message.ModuleSeen.{toFrame, view, not-plain}
 use Rattle.bench.proofs.message.SeenAfterOwnEvent.{Valid, carried, strandOf, lives, moves}
 use Rattle.one_stream.specs.Sendings as OS
@@ -26,9 +26,6 @@ use Rattle.one_stream.specs.Frames as OF
 use Rattle.one_stream.specs.Classes as OC
 
 -- ── a sending ──
-abbrev pub maySend : Bench → Stream → Book → Which → Bool
-maySend b s k w = rule1 b k w && rule3 b s k w
-
 module _ (b : Bench) (s : Stream) (k : Book) (w : Which) (t : T (maySend b s k w)) where
   abbrev f : Frame
   f = frameOf w k
@@ -45,7 +42,7 @@ module _ (b : Bench) (s : Stream) (k : Book) (w : Which) (t : T (maySend b s k w
   not-full : OS.Full (toSent (f .sendings)) → ⊥
   not-full y = T-not (wasFull f) (and-r (isLive (ownerOf w k) b && f .given) (not (wasFull f)) first-rule) (was-full f y)
 
-  in-turn : T (inTurn k w)
+  pub in-turn : T (inTurn k w)
   in-turn = and-l (inTurn k w) (inReach (settingsOf s k b) k w (now b)) (and-r (rule1 b k w) (rule3 b s k w) t)
 
   in-reach : T (inReach (settingsOf s k b) k w (now b))
@@ -87,7 +84,7 @@ module _ {n : ℕ} {D : OS.Delays} (K : ClassOnBench n D) (s : Stream) (me : ℕ
   legal-conf to t = (
     fullness to,
     not-full b s k theConfirmation t,
-    K .ready (k .payloadFrame) (in-turn b s k theConfirmation t),
+    K .ready b s k settings t,
     λ i. omega (arith, first-reach (k .payloadFrame .sendings) (in-reach b s k theConfirmation t) i, number (λ d. d .dc)),
   )
     where

@@ -22,7 +22,7 @@ use Rattle.bench.proofs.laws.SlotAfterCall.{slot-kept, giving, next-own
 use Rattle.bench.proofs.laws.ModuleAfterEvent.{module-step, next-done, countOf, asFunction}
 use Rattle.bench.proofs.message.SendingsSeen.{toSent}
 use Rattle.bench.proofs.message.ClassOnBench.{ClassOnBench}
-use Rattle.bench.proofs.message.ModuleSeen.{toFrame, notes, viewOf, view, Looks, looks, view-looks, shows-looks}
+use Rattle.bench.proofs.message.ModuleSeen.{toFrame, notes, viewOf, view, Looks, looks, view-looks, looks-at}
 use Rattle.bench.proofs.message.SeenAfterOwnEvent.{Valid, carried, receiversOf, made, strandOf, made-path}
 use Rattle.one_stream.specs.Sendings as OS
 use Rattle.one_stream.specs.Frames as OF
@@ -38,7 +38,7 @@ module _ {n : ℕ} {D : OS.Delays} (K : ClassOnBench n D) (s : Stream) (me : ℕ
   x = slotAt s j b
 
   -- the slot of the module that gives it out, and of the others
-  slot-own : slotAt s j after ≡ givenOut c x
+  pub slot-own : slotAt s j after ≡ givenOut c x
   slot-own =
       let m = moduleAt j b in
       let d = next-done b j s c t in
@@ -48,7 +48,7 @@ module _ {n : ℕ} {D : OS.Delays} (K : ClassOnBench n D) (s : Stream) (me : ℕ
       (next-own (m .node) (v .nodes j) (d .0))
       ∙ ap (λ c. givenOut c x) (d .2))
 
-  slot-other : (i : ℕ) → (T (eqb i j) → ⊥) → slotAt s i after ≡ slotAt s i b
+  pub slot-other : (i : ℕ) → (T (eqb i j) → ⊥) → slotAt s i after ≡ slotAt s i b
   slot-other i other =
       let m = moduleAt i b in
       ap (λ (m : Module). slotOf s (m .node)) (module-step b (gives j s c) i
@@ -139,9 +139,12 @@ module _ {n : ℕ} {D : OS.Delays} (K : ClassOnBench n D) (s : Stream) (me : ℕ
         own : Looks K (isReceiver x) (K .C .onGiven (K .held x)) false (slotAt s j after)
         own =
             subst (Looks K (isReceiver x) (K .C .onGiven (K .held x)) false) (sym (slot-own ∙ ap (λ c. givenOut c x) two))
-            (shows-looks K x (givenOut 2 x) (given-out-keeps 2 x)
-            (K .onGiven (moduleAt j b .node .counter) x
-            (record { receiver = r; settings = v .receivers j r; kept = slot-kept s (moduleAt j b .node) (v .nodes j) })))
+            (looks-at K x (givenOut 2 x) (given-out-keeps 2 x) (given .0) (given .1))
+          where
+            given : (K .held (givenOut 2 x) ≡ K .C .onGiven (K .held x)) × (givenOut 2 x .pending .abort ≡ false)
+            given =
+                K .onGiven (moduleAt j b .node .counter) x
+                (record { receiver = r; settings = v .receivers j r; kept = slot-kept s (moduleAt j b .node) (v .nodes j) })
 
         gave : (r : Bool) → T r → (l : Bool) (h : K .C .Slot) (q : Bool) (fs : List OF.Frame) (log : List OC.Note)
             → OC.giveOwn (K .C) (viewOf K l r h q fs log) ≡ viewOf K l r (K .C .onGiven h) false (OF.giveNewest fs) log

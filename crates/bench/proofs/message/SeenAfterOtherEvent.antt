@@ -14,7 +14,7 @@ use Rattle.node.specs.Nodes.{slotOf}
 use Rattle.node.specs.Request.{requested, busy}
 use Rattle.node.specs.Slots.{isReceiver, isSender}
 use Rattle.one_stream.proofs.Truth.{cond-elim, cond-true, and-l, and-r, both, is-true, is-false, so}
-use Rattle.bench.specs.Bench.{Module, Bench, Book, Frame, moduleAt, isLive, slotAt, now, counts}
+use Rattle.bench.specs.Bench.{Module, Bench, Book, Frame, moduleAt, isLive, slotAt}
 use Rattle.bench.specs.Events.{Event, asks, dies, step, dead, withNode, isAccepted, newBook, asked}
 use Rattle.bench.specs.Lists.{nth}
 use Rattle.bench.specs.SetUp.{isDone}
@@ -156,6 +156,9 @@ module _ {n : ℕ} {D : OS.Delays} (K : ClassOnBench n D) (s : Stream) (me : ℕ
       where
         x : Slot
         x = slotAt s i b
+
+    pub asks-pending : (i : ℕ) → slotAt s i (step b (asks j s p)) .pending .abort ≡ slotAt s i b .pending .abort
+    asks-pending i = asks-looks i .pending
 
     asks-same : (i : ℕ)
         → (moduleAt i (step b (asks j s p)) .live ≡ isLive i b) × (moduleAt i (step b (asks j s p)) .log ≡ moduleAt i b .log) ×

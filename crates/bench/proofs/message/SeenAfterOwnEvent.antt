@@ -1,9 +1,9 @@
--- The strand of a stream follows the bench: a tick, a sending of its newest message, giving out.
+-- A stream of a bench as a strand of the one-stream proof, and that the strand follows the bench: at a tick, and at a sending of its newest message.
 use Prim.Native.Nat.{ℕ, zero, suc, _+_, _-_, _≤_}
 use native.Mathlib.Omega.{arith}
 use mathlib.Core.Path.{_≡_, refl, ap, sym, subst, _∙_, fun-ext}
 use mathlib.Core.Logic.{inr}
-use mathlib.Core.Bool.{Bool, true, false, not, _&&_, _||_, cond}
+use mathlib.Core.Bool.{Bool, true, false, not, _&&_, cond}
 use mathlib.Core.List.{List, [], _∷_, map}
 use lib.ListN.{length}
 use lib.Dec.{T, ltb, eqb, eqb→eq, not-T, T-not}
@@ -28,14 +28,14 @@ use Rattle.bench.specs.Events.{Event, sends, ticks, step, ticked, named,
 use Rattle.bench.specs.Lists.{nth, at}
 use Rattle.bench.proofs.laws.SlotAfterCall.{hear-counter, tick-counter}
 use Rattle.bench.proofs.laws.ModuleAfterEvent.{nth-at, hearsFrame, tickedLive, module-step, deaf, moved-step, length-at, size-step, countOf}
-use Rattle.bench.proofs.laws.ModuleAfterEvent.{asFunction, count-is}
+use Rattle.bench.proofs.laws.ModuleAfterEvent.{asFunction, count-is, hear-kind, tick-kind}
 use Rattle.bench.proofs.laws.BooksAfterEvent.{listed, entering, listed-step, books-sent}
 use Rattle.bench.proofs.laws.FramesOfBooks.{Labels, label-step}
 use Rattle.bench.proofs.message.SendingsSeen.{toSent, sent-again}
-use Rattle.bench.proofs.message.ClassOnBench.{OfClass, ClassOnBench}
+use Rattle.bench.proofs.message.ClassOnBench.{OfClass, Becomes, ClassOnBench}
 use Rattle.bench.proofs.message.ModuleSeen.{toFrame, notes, view, Looks, looks, heard-data, heard-conf, heard-code2}
 use Rattle.bench.proofs.message.ModuleSeen.{ticked-receiver, ticked-other, ticked-log, ticked-log-other}
-use Rattle.bench.proofs.message.StreamSeen.{row-enter, view-entered, view-same, data-view, conf-view, code2-view, tick-view, own-view, heard-log}
+use Rattle.bench.proofs.message.StreamSeen.{row-enter, view-same, view-becomes, seen, data-view, conf-view, code2-view, tick-view, own-view, heard-log}
 use Rattle.one_stream.specs.Sendings as OS
 use Rattle.one_stream.specs.Frames as OF
 use Rattle.one_stream.specs.Classes as OC
@@ -157,7 +157,7 @@ module _ {n : ℕ} {D : OS.Delays} (K : ClassOnBench n D) (s : Stream) (me : ℕ
         (i : ℕ) → T (causes D (K .C) (strandOf b k true .state) e i) → K .C .payload (strandOf b k true .state .receiver i .slot) ≡ carried
 
     -- of what the class sees held at a live receiver that the event reaches
-    caused-bytes : (i : ℕ) (reached : Bool) (test : K .C .Slot → Bool) → (let x = slotAt s i b in let z = strandOf b k true .state .receiver i in
+    pub caused-bytes : (i : ℕ) (reached : Bool) (test : K .C .Slot → Bool) → (let x = slotAt s i b in let z = strandOf b k true .state .receiver i in
         T (isLive i b) → T (isReceiver x) → T reached → T (test (K .held x))
         → (T ((z .live && reached) && test (z .slot)) → K .C .payload (z .slot) ≡ carried) → K .C .payload (K .held x) ≡ carried)
     unfolding view
@@ -212,8 +212,8 @@ module _ {n : ℕ} {D : OS.Delays} (K : ClassOnBench n D) (s : Stream) (me : ℕ
               ∙ (ap (λ t. OC.ticked (K .C) t (asFunction (now (step b ticks))) before) (sym (add-one (countOf b i)))
               ∙ (tick-view K (m .live) (K .held x) (x .pending .abort) (map (toFrame carried) row) (notes s (m .log)) (asFunction (now (step b ticks))) carried
               (isReceiver x) r (countOf b i + 1) late-bytes
-              ∙ sym (view-entered K s carried (now (step b ticks)) m (tickedLive m) row refl (ticked-receiver K s (m .node) (v .nodes i) of r)
-              (ticked-log K s (m .node) (v .nodes i) of r (m .log)))))
+              ∙ sym (view-becomes K s carried (now (step b ticks)) m (tickedLive m) row refl (tick-kind s (m .node))
+              (ticked-receiver K s (m .node) (v .nodes i) of r) (ticked-log K s (m .node) (v .nodes i) of r (m .log)))))
 
       pub tick-strand : (hold : Bool) → OH.act (K .C) (strandOf b k hold) (OH.ticks (lives b))
           ≡ strandOf (step b ticks) (entering s (b .modules) (step b ticks .modules) k)
@@ -262,6 +262,12 @@ module _ {n : ℕ} {D : OS.Delays} (K : ClassOnBench n D) (s : Stream) (me : ℕ
     when-sent : (w : Which) → countOf b ≡ asFunction (now (sentTo w))
     when-sent w = count-sent w ∙ fun-ext (λ i. sym (count-is i (sentTo w .modules)))
 
+    -- a module with its row of these, after the sending
+    entered-sent : (w : Which) (rows : List (List Frame)) → length rows ≡ length (b .modules) → (i : ℕ)
+        → entered b (sentTo w) i (nth [] i rows) (cond (hearsIt w i) (hearsFrame (frameOf w k) (moduleAt i b)) (moduleAt i b))
+        ≡ receiversOf (sentTo w) (enter (now (sentTo w)) s (b .modules) (sentTo w .modules) rows) i
+    entered-sent w rows size i = after-event b (sentTo w) rows size (size-step b (sends s 0 w to)) i _ (module-sent w i)
+
     -- a live receiver that is named does with its view what the class does; the views of others stay
     module _ (w : Which) (i : ℕ) (row : List Frame) (op : OC.Receiver (K .C) → OC.Receiver (K .C)) where
       abbrev m : Module
@@ -272,6 +278,17 @@ module _ {n : ℕ} {D : OS.Delays} (K : ClassOnBench n D) (s : Stream) (me : ℕ
 
       abbrev f : Frame
       f = frameOf w k
+
+      -- what the class says of its slot, and makes of its view
+      became : (T (eqb (codeOf (f .id)) 3) → ⊥) → {h : K .C .Slot} {caused : Bool}
+          → Becomes (K .C) (K .held) x h caused (slotOf s (hearsFrame f m .node))
+          → op (view K s carried m row)
+          ≡ seen K (m .live) (K .held x) (x .pending .abort) (map (toFrame carried) row) (notes s (m .log)) (asFunction (now (sentTo w))) carried (isReceiver x)
+          h caused (notes s (m .log))
+          → op (view K s carried m row) ≡ entered b (sentTo w) i row (hearsFrame f m)
+      became not-plain k e =
+          e ∙ sym (view-becomes K s carried (now (sentTo w)) m (hearsFrame f m) row refl (hear-kind s (f .id) (f .payload) (m .node)) k
+          (heard-log s f m not-plain))
 
       heard-receiver : (T (eqb (codeOf (f .id)) 3) → ⊥) → (T (isReceiver x) → T (eqb i (ownerOf w k)) → ⊥)
           → (T (isLive i b) → T (isReceiver x) → T (named to i)
@@ -313,25 +330,25 @@ module _ {n : ℕ} {D : OS.Delays} (K : ClassOnBench n D) (s : Stream) (me : ℕ
       -- the data and the confirmation are the sender's
       module _ (sender : k .sender ≡ me) where
         module _ (id : k .payloadFrame .id ≡ idOf s 0) (bytes : k .payloadFrame .payload ≡ p) (short : length p ≤ maxPayload) where
+          pub data-heard : (i : ℕ) → (let x = slotAt s i b in T (isReceiver x)
+              → Becomes (K .C) (K .held) x (K .C .onData (countOf b i) p (K .held x)) false (slotOf s (hearsFrame (k .payloadFrame) (moduleAt i b) .node)))
+          data-heard i r = rw (id, bytes) (heard-data K s (moduleAt i b .node) (v .nodes i) (v .receivers i) (v .small) r p short)
+
           data-receiver : (i : ℕ) → OC.step (K .C) (strandOf b k true .state) (OC.sendData (named to) (isFull to)) .receiver i
               ≡ receiversOf (sentTo thePayload) (bookAfter thePayload .aborts) i
           unfolding OC.step view
           data-receiver i =
               let m = moduleAt i b in
               let x = slotAt s i b in
-              let f = k .payloadFrame in
               let row = nth [] i (k .aborts) in
-              let t = now (sentTo thePayload) in
-              let plain-not = not-plain-frame s 0 (omega arith) id in
-              heard-receiver thePayload i row (OC.hearData (K .C) (countOf b i) p) plain-not (own-no-receiver sender i)
-              (λ live r name.
-              let heard : Looks K (isReceiver x) (K .C .onData (countOf b i) p (K .held x)) (x .pending .abort) (slotOf s (hearsFrame f m .node)) =
-              rw (id, bytes) (heard-data K s (m .node) (v .nodes i) (v .receivers i) (v .small) r p short) in
-              data-view K (m .live) (K .held x) (x .pending .abort) (map (toFrame carried) row) (notes s (m .log)) (asFunction t) carried (isReceiver x) r
-              (countOf b i) p
-              ∙ sym (view-entered K s carried t m (hearsFrame f m) row refl heard (heard-log s f m plain-not)))
-              ∙ after-event b (sentTo thePayload) (k .aborts) size (size-step b (sends s 0 thePayload to)) i
-              (cond (hearsIt thePayload i) (hearsFrame f m) m) (module-sent thePayload i)
+              let t = asFunction (now (sentTo thePayload)) in
+              let op = OC.hearData (K .C) (countOf b i) p in
+              let not-plain = not-plain-frame s 0 (omega arith) id in
+              heard-receiver thePayload i row op not-plain (own-no-receiver sender i)
+              (λ live r name. became thePayload i row op not-plain (data-heard i r)
+              (data-view K (m .live) (K .held x) (x .pending .abort) (map (toFrame carried) row) (notes s (m .log)) t carried (isReceiver x) r
+              (countOf b i) p))
+              ∙ entered-sent thePayload (k .aborts) size i
 
           pub data-strand : (hold : Bool)
               → OH.act (K .C) (strandOf b k hold) (OH.on (OC.sendData (named to) (isFull to)))
@@ -343,27 +360,27 @@ module _ {n : ℕ} {D : OS.Delays} (K : ClassOnBench n D) (s : Stream) (me : ℕ
 
         module _ (id : k .confirmation .id ≡ idOf s 1) (empty : k .confirmation .payload ≡ [])
             (bytes : Bytes b v k size (OC.sendConf (named to) (isFull to))) where
+          pub conf-heard : (i : ℕ) → (let x = slotAt s i b in T (isReceiver x)
+              → Becomes (K .C) (K .held) x (K .C .onConf (K .held x)) (K .C .refuses (K .held x))
+              (slotOf s (hearsFrame (k .confirmation) (moduleAt i b) .node)))
+          conf-heard i r = rw (id, empty) (heard-conf K s (moduleAt i b .node) (v .nodes i) (v .receivers i) (v .small) r)
+
           conf-receiver : (i : ℕ) → OC.step (K .C) (strandOf b k true .state) (OC.sendConf (named to) (isFull to)) .receiver i
               ≡ receiversOf (sentTo theConfirmation) (bookAfter theConfirmation .aborts) i
           unfolding OC.step view
           conf-receiver i =
               let m = moduleAt i b in
               let x = slotAt s i b in
-              let f = k .confirmation in
               let row = nth [] i (k .aborts) in
-              let t = now (sentTo theConfirmation) in
-              let before = view K s carried m row in
-              let plain-not = not-plain-frame s 1 (omega arith) id in
-              heard-receiver theConfirmation i row (OC.hearConf (K .C) (countOf b)) plain-not (own-no-receiver sender i)
-              (λ live r name.
-              let heard : Looks K (isReceiver x) (K .C .onConf (K .held x)) (x .pending .abort || K .C .refuses (K .held x)) (slotOf s (hearsFrame f m .node)) =
-              rw (id, empty) (heard-conf K s (m .node) (v .nodes i) (v .receivers i) (v .small) r) in
-              ap (λ c. OC.hearConf (K .C) c before) (when-sent theConfirmation)
-              ∙ (conf-view K (m .live) (K .held x) (x .pending .abort) (map (toFrame carried) row) (notes s (m .log)) (asFunction t) carried (isReceiver x) r
-              (λ refuses. caused-bytes b v k size i (named to i) (K .C .refuses) live r name refuses (bytes i))
-              ∙ sym (view-entered K s carried t m (hearsFrame f m) row refl heard (heard-log s f m plain-not))))
-              ∙ after-event b (sentTo theConfirmation) (k .aborts) size (size-step b (sends s 0 theConfirmation to)) i
-              (cond (hearsIt theConfirmation i) (hearsFrame f m) m) (module-sent theConfirmation i)
+              let t = asFunction (now (sentTo theConfirmation)) in
+              let op = OC.hearConf (K .C) (countOf b) in
+              let not-plain = not-plain-frame s 1 (omega arith) id in
+              heard-receiver theConfirmation i row op not-plain (own-no-receiver sender i)
+              (λ live r name. became theConfirmation i row op not-plain (conf-heard i r)
+              (ap (λ c. OC.hearConf (K .C) c (view K s carried m row)) (when-sent theConfirmation)
+              ∙ conf-view K (m .live) (K .held x) (x .pending .abort) (map (toFrame carried) row) (notes s (m .log)) t carried (isReceiver x) r
+              (λ refuses. caused-bytes b v k size i (named to i) (K .C .refuses) live r name refuses (bytes i))))
+              ∙ entered-sent theConfirmation (k .aborts) size i
 
           pub conf-strand : (hold : Bool)
               → OH.act (K .C) (strandOf b k hold) (OH.on (OC.sendConf (named to) (isFull to)))
@@ -397,14 +414,18 @@ module _ {n : ℕ} {D : OS.Delays} (K : ClassOnBench n D) (s : Stream) (me : ℕ
         bytes-sent zero (f ∷ fs) t = refl
         bytes-sent (suc y) (f ∷ fs) t = bytes-sent y fs t
 
+        pub code2-heard : (i : ℕ) → (let x = slotAt s i b in T (isReceiver x)
+            → Becomes (K .C) (K .held) x (K .C .onCode2 (countOf b i) carried (K .held x)) false
+            (slotOf s (hearsFrame (frameOf (theAbort q y) k) (moduleAt i b) .node)))
+        code2-heard i r = rw (id, bytes) (heard-code2 K s (moduleAt i b .node) (v .nodes i) (v .receivers i) (v .small) r p short)
+
         code2-receiver : (i : ℕ) → OC.step (K .C) (strandOf b k true .state) (OC.sendCode2 q y (named to) (isFull to)) .receiver i
             ≡ receiversOf (sentTo (theAbort q y)) (bookAfter (theAbort q y) .aborts) i
         unfolding OC.step view
         code2-receiver i =
             go (eqb i q) refl
             ∙ (ap (λ row. entered b (sentTo w) i row (cond (hearsIt w i) (hearsFrame f m) m)) (sym (row-sent i))
-            ∙ after-event b (sentTo w) (at (at changed y) q (k .aborts)) (length-at (at changed y) q (k .aborts) ∙ size) (size-step b (sends s 0 w to)) i
-            (cond (hearsIt w i) (hearsFrame f m) m) (module-sent w i))
+            ∙ entered-sent w (at (at changed y) q (k .aborts)) (length-at (at changed y) q (k .aborts) ∙ size) i)
           where
             w : Which
             w = theAbort q y
@@ -440,14 +461,10 @@ module _ {n : ℕ} {D : OS.Delays} (K : ClassOnBench n D) (s : Stream) (me : ℕ
                 (sym (is-false (hearsIt w i) (λ g. T-not (eqb i q) (and-r (isLive i b && named to i) (not (eqb i q)) g) (so own)))))
             go false other =
                 heard-receiver w i row (OC.hearCode2 (K .C) (countOf b i) (OF.bytesAt y frames)) plain-not (λ r o. not-so other o)
-                (λ live r name.
-                let t = now (sentTo w) in
-                let heard : Looks K (isReceiver x) (K .C .onCode2 (countOf b i) carried (K .held x)) (x .pending .abort) (slotOf s (hearsFrame f m .node)) =
-                rw (id, bytes) (heard-code2 K s (m .node) (v .nodes i) (v .receivers i) (v .small) r p short) in
-                ap (λ c. OC.hearCode2 (K .C) (countOf b i) c (view K s carried m row)) (bytes-sent y (nth [] q (k .aborts)) given)
-                ∙ (code2-view K (m .live) (K .held x) (x .pending .abort) (map (toFrame carried) row) (notes s (m .log)) (asFunction t) carried (isReceiver x) r
-                (countOf b i) carried
-                ∙ sym (view-entered K s carried t m (hearsFrame f m) row refl heard (heard-log s f m plain-not))))
+                (λ live r name. became w i row (OC.hearCode2 (K .C) (countOf b i) (OF.bytesAt y frames)) plain-not (code2-heard i r)
+                (ap (λ c. OC.hearCode2 (K .C) (countOf b i) c (view K s carried m row)) (bytes-sent y (nth [] q (k .aborts)) given)
+                ∙ code2-view K (m .live) (K .held x) (x .pending .abort) (map (toFrame carried) row) (notes s (m .log)) (asFunction (now (sentTo w))) carried
+                (isReceiver x) r (countOf b i) carried))
 
         pub code2-strand : (hold : Bool)
             → OH.act (K .C) (strandOf b k hold) (OH.on (OC.sendCode2 q y (named to) (isFull to)))

@@ -1,7 +1,7 @@
 -- A frame's sendings and the moments of a bench, as the one-stream proof has them.
 use Prim.Native.Nat.{ℕ, zero, suc, _+_, _≤_}
 use native.Mathlib.Omega.{arith}
-use mathlib.Core.Path.{_≡_, refl, ap, sym, fun-ext}
+use mathlib.Core.Path.{_≡_, refl, ap, sym, subst, fun-ext}
 use mathlib.Core.Bool.{true, false, not, _&&_}
 use mathlib.Core.List.{[], _∷_}
 use lib.Dec.{T, leb, leb→le}
@@ -17,37 +17,34 @@ toSent never = OS.never
 toSent (sent a b f) = OS.sent (asFunction a) (asFunction b) f
 
 -- ── what the books say of a frame ──
-pub was-full : (f : Frame) → OS.Full (toSent (f .sendings)) → T (wasFull f)
+full-is : (f : Frame) → OS.Full (toSent (f .sendings)) ≡ T (wasFull f)
 unfolding toSent
-was-full f = go (f .sendings)
+full-is f = go (f .sendings)
   where
-    go : (d : Sendings) → OS.Full (toSent d) → T (elim d [ never ↦ false | sent a b c ↦ c ])
-    go never t = t
-    go (sent a b c) t = t
+    go : (d : Sendings) → OS.Full (toSent d) ≡ T (elim d [ never ↦ false | sent a b c ↦ c ])
+    go never = refl
+    go (sent a b c) = refl
 
-pub full-was : (f : Frame) → T (wasFull f) → OS.Full (toSent (f .sendings))
+some-is : (f : Frame) → OS.Some (toSent (f .sendings)) ≡ T (wasSent f)
 unfolding toSent
-full-was f = go (f .sendings)
+some-is f = go (f .sendings)
   where
-    go : (d : Sendings) → T (elim d [ never ↦ false | sent a b c ↦ c ]) → OS.Full (toSent d)
-    go never t = t
-    go (sent a b c) t = t
+    go : (d : Sendings) → OS.Some (toSent d) ≡ T (elim d [ never ↦ false | sent a b c ↦ true ])
+    go never = refl
+    go (sent a b c) = refl
 
-pub was-sent : (f : Frame) → OS.Some (toSent (f .sendings)) → T (wasSent f)
-unfolding toSent
-was-sent f = go (f .sendings)
-  where
-    go : (d : Sendings) → OS.Some (toSent d) → T (elim d [ never ↦ false | sent a b c ↦ true ])
-    go never t = t
-    go (sent a b c) t = t
+module _ (f : Frame) where
+  pub was-full : OS.Full (toSent (f .sendings)) → T (wasFull f)
+  was-full t = subst (λ (A : Type 0). A) (full-is f) t
 
-pub sent-was : (f : Frame) → T (wasSent f) → OS.Some (toSent (f .sendings))
-unfolding toSent
-sent-was f = go (f .sendings)
-  where
-    go : (d : Sendings) → T (elim d [ never ↦ false | sent a b c ↦ true ]) → OS.Some (toSent d)
-    go never t = t
-    go (sent a b c) t = t
+  pub full-was : T (wasFull f) → OS.Full (toSent (f .sendings))
+  full-was t = subst (λ (A : Type 0). A) (sym (full-is f)) t
+
+  pub was-sent : OS.Some (toSent (f .sendings)) → T (wasSent f)
+  was-sent t = subst (λ (A : Type 0). A) (some-is f) t
+
+  pub sent-was : T (wasSent f) → OS.Some (toSent (f .sendings))
+  sent-was t = subst (λ (A : Type 0). A) (sym (some-is f)) t
 
 pub omits : (f : Frame) → OS.Omitted (toSent (f .sendings)) → one (omission f) ≡ 1
 unfolding toSent

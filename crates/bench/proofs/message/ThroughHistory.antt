@@ -10,7 +10,6 @@ use Rattle.node.specs.declared.slots.Slot.{Slot}
 use Rattle.node.specs.declared.Node.{Node}
 use Rattle.wire.specs.Identifiers.{codeOf}
 use Rattle.node.specs.Nodes.{slotOf}
-use Rattle.node.specs.Request.{requested}
 use Rattle.node.specs.Slots.{isReceiver, isSender}
 use Rattle.node.specs.Tick.{late, due, holdOver, lapsed}
 use Rattle.node.proofs.Choices.{either-way}
@@ -26,11 +25,11 @@ use Rattle.bench.proofs.laws.ModuleAfterEvent.{module-step, dead-node, 
 use Rattle.bench.proofs.laws.BooksAfterEvent.{withAborts, entering, books-ticked, books-dead, books-asked-other, books-given-other}
 use Rattle.bench.proofs.laws.BooksAfterEvent.{books-sent-other}
 use Rattle.bench.proofs.laws.FramesOfBooks.{Labels, no-frame, labelled}
-use Rattle.bench.proofs.message.ClassOnBench.{ClassOnBench}
+use Rattle.bench.proofs.message.ClassOnBench.{maySend, ClassOnBench}
 use Rattle.bench.proofs.message.ModuleSeen.{view}
 use Rattle.bench.proofs.message.StreamSeen.{enter-none}
 use Rattle.bench.proofs.message.SeenAfterOwnEvent.{Valid, valid-step, receiversOf}
-use Rattle.bench.proofs.message.RulesSeen.{maySend, was-given}
+use Rattle.bench.proofs.message.RulesSeen.{was-given}
 use Rattle.bench.proofs.message.MessageKept.{Track, track-else, track-send, track-death, track-tick}
 use Rattle.bench.proofs.message.KeptByGivingOut.{track-give}
 use Rattle.bench.proofs.message.RequestOpens.{logsOf, open-track, next-track}

@@ -19,22 +19,25 @@ use Rattle.bench.specs.Lists.{nth}
 use Rattle.bench.specs.Bench.{Module, Bench, Delivery, sameStream, moduleAt, isLive, slotAt, bookOf, noBook, now, frameOf, ownerOf}
 use Rattle.bench.specs.SetUp.{Plan, proper, start}
 use Rattle.bench.specs.Events.{Event, asks, gives, sends, ticks, dies, named, isAccepted, isNext, onto, atOnce, deliveries, step, run}
-use Rattle.bench.specs.Rules.{wasFull, keepsSoFar}
-use Rattle.bench.specs.Demands.{tickCount, delivered, noneAccepted, Has, Seen, seenAt, Delivers, DataFull, SameOrder}
+use Rattle.bench.specs.Rules.{keepsSoFar}
+use Rattle.bench.specs.Demands.{tickCount, delivered, Has, MessageIn, atRequest, atMoment, itsBook, FullData, Delivers}
+use Rattle.bench.specs.Demands.{justAsked, SameOrder}
 use Rattle.bench.proofs.laws.SlotAfterCall.{same-stream, onStream}
 use Rattle.bench.proofs.laws.ModuleAfterEvent.{stepModule, module-step, countOf}
 use Rattle.bench.proofs.laws.BooksAfterEvent.{books-asked}
 use Rattle.bench.proofs.laws.AtStart.{count-at-start}
-use Rattle.bench.proofs.laws.TicksCounted.{run-append, live-back, count-step, count-run}
+use Rattle.bench.proofs.laws.TicksCounted.{to-the-end, live-back, count-step, count-run}
 use Rattle.bench.proofs.message.SendingsSeen.{toSent, full-was}
 use Rattle.bench.proofs.message.ClassOnBench.{toDelays}
 use Rattle.bench.proofs.message.ModuleSeen.{toNote, notes}
 use Rattle.bench.proofs.message.SeenAfterOwnEvent.{valid-step}
+use Rattle.bench.proofs.message.NewestData.{dataOf}
 use Rattle.bench.proofs.message.RequestOpens.{logsOf}
-use Rattle.bench.proofs.message.AcceptedRequest.{Requested, requested}
+use Rattle.bench.proofs.message.AcceptedRequest.{Requested}
+use Rattle.bench.proofs.message.MessageOfHistory.{its-request}
 use Rattle.bench.proofs.two_message.TwoMessageOnBench.{fits, two-message}
 use Rattle.bench.proofs.same_order.LogOrder.{Earlier, receivesPlain, timedAt, in-order, log-order, earlier-before}
-use Rattle.bench.proofs.same_order.DeliveryTicks.{dataOf, Told, not-yet, told, Timed, timed-run}
+use Rattle.bench.proofs.same_order.DeliveryTicks.{Told, not-yet, told, Timed, timed-run}
 use Rattle.one_stream.specs.Sendings as OS
 use Rattle.one_stream.specs.Classes as OC
 
@@ -76,19 +79,33 @@ module _ (s : Stream) (d : Delivery) (rest : List Delivery) where
       go true own e later = let q : x ≡ d = cc in (inl q, subst (λ (x : Delivery). x .stream ≡ s) q (same-stream (own tt)))
       go false own e later = let r = later e in (inr (r .0), r .1)
 
+-- a module delivers a message: in its log stands d, of its stream, at this tick
+record DeliversAt (plan : Plan) (h : List Event) (s : Stream) (t i : ℕ) (d : Delivery) : Type 0 where
+  logged : Has d (moduleAt i (run (start plan) h) .log)
+  timed : T (timedAt plan i (d .stream))
+  stream : d .stream ≡ s
+  tick : d .at ≡ t
+
 -- ── one message: requested in b₁, seen in b₃ ──
-module _ (plan : Plan) (before since rest : List Event) (j : ℕ) (s : Stream) (p : List ℕ) (q : Requested two-message plan before (since ++ rest) j s p) where
+module _ (plan : Plan) (ok : T (proper plan)) (h : List Event) (keeps : T (keepsSoFar (start plan) h)) (m : MessageIn (start plan) h)
+    (k : FullData (start plan) h m) where
   abbrev b₀ : Bench
   b₀ = start plan
 
   abbrev b₁ : Bench
-  b₁ = run b₀ before
+  b₁ = atRequest b₀ h m
 
   abbrev b₂ : Bench
-  b₂ = step b₁ (asks j s p)
+  b₂ = justAsked b₀ h m
 
   abbrev b₃ : Bench
-  b₃ = run b₂ since
+  b₃ = atMoment b₀ h m
+
+  abbrev s : Stream
+  s = m .stream
+
+  q : Requested two-message plan (m .before) (m .since ++ m .rest) (m .sender) s (m .payload)
+  q = its-request two-message plan ok h keeps m (k .twoMessage)
 
   abbrev D : OS.Delays
   D = toDelays (q .settings)
@@ -100,79 +117,61 @@ module _ (plan : Plan) (before since rest : List Event) (j : ℕ) (s : Stream) (
       not-so (two-not-plain (x .settings) (is-true _ (q .at-start .receivers i (and-l (isReceiver x) (isPlain (x .settings)) t) .class)))
       (and-r (isReceiver x) (isPlain (x .settings)) t))
 
-  module _ (accepted : T (isAccepted j s p b₁)) (newest : T (noneAccepted s b₂ since)) where
-    timed₂ : Timed D s j p (logsOf s b₁) b₂
-    unfolding toSent
-    timed₂ =
-        record {
-          even = λ i k l r. omega (arith, count i l, count k r);
-          last = λ some. absurd (subst (λ ks. OS.Some (dataOf (nth noBook 0 ks))) (books-asked s b₁ (q .at-request .ledger) j p accepted) some);
-          logs = λ i. not-yet (ap (λ (m : Module). notes s (m .log)) (module-step b₁ (asks j s p) i)
-              ∙ either-way (λ (m : Module). notes s (m .log)) (isAccepted j s p b₁ && eqb i j) refl refl);
-        }
-      where
-        count : (i : ℕ) → T (isLive i b₂) → countOf b₂ i ≡ tickCount before
-        count i l =
-            omega (arith, count-step b₁ (asks j s p) i l, count-run before b₀ i (live-back b₁ (asks j s p) i l) .0, count-at-start plan i)
+  -- what each module has delivered of it, at once after the request and at its moment
+  abbrev TimedIn : Bench → Type 0
+  TimedIn b = Timed D s (m .sender) (m .payload) (logsOf s b₁) b
 
-    timed₃ : Timed D s j p (logsOf s b₁) b₃
-    timed₃ =
-        timed-run D s j p (logsOf s b₁) (fits s (q .settings) (q .of) (q .lawful)) (now b₁) b₂ (valid-step (asks j s p) (q .at-request)) (q .track)
-        since rest (q .keeps-on) newest timed₂
-
-    -- where its data was full, every module that delivers it does so dd + 1 ticks after the last sending of its data
-    one-tick : T (wasFull (bookOf s 0 b₃ .payloadFrame)) → (i : ℕ) (d : Delivery) → delivered s i b₃ ≡ d ∷ delivered s i b₁
-        → d .at ≡ OS.last (dataOf (bookOf s 0 b₃)) j + D .dd + 1
-    one-tick full i d e = go (timed₃ .logs i)
-      where
-        go : Told D s j p (logsOf s b₁) (bookOf s 0 b₃) i (notes s (moduleAt i b₃ .log)) → d .at ≡ OS.last (dataOf (bookOf s 0 b₃)) j + D .dd + 1
-        go (not-yet q) =
-            let long : length (logsOf s b₁ i) ≡ suc (length (logsOf s b₁ i)) = ap length (sym q ∙ ap (map toNote) e) in
-            let z : ⊥ = omega arith in absurd z
-        go (told t q conf when) =
-            let same : toNote d ∷ logsOf s b₁ i ≡ record { at = t; bytes = p } ∷ logsOf s b₁ i = sym (ap (map toNote) e) ∙ q in
-            let note : toNote d ≡ record { at = t; bytes = p } = cc in
-            ap (λ (n : OC.Note). n .at) note ∙ when (full-was (bookOf s 0 b₃ .payloadFrame) full)
-
--- ── two messages ──
--- a module delivers the message: in its log stands d, of its stream, at this tick
-record DeliversAt (plan : Plan) (h : List Event) (s : Stream) (t i : ℕ) (d : Delivery) : Type 0 where
-  logged : Has d (moduleAt i (run (start plan) h) .log)
-  timed : T (timedAt plan i (d .stream))
-  stream : d .stream ≡ s
-  tick : d .at ≡ t
-
-module _ (plan : Plan) (ok : T (proper plan)) (h : List Event) (keeps : T (keepsSoFar (start plan) h)) (m : Seen (start plan) h) where
-  its-request : Requested two-message plan (m .before) (m .since ++ m .rest) (m .sender) (m .stream) (m .payload)
-  its-request =
-      requested two-message plan (m .before) (m .since ++ m .rest) (m .sender) (m .stream) (m .payload) ok
-      (subst (λ l. T (keepsSoFar (start plan) l)) (m .split) keeps)
-      (m .accepted) (m .twoMessage)
-
-  its-tick : ℕ
-  its-tick = OS.last (dataOf (bookOf (m .stream) 0 (seenAt (start plan) h m))) (m .sender) + its-request .settings .dd + 1
-
-  delivers-at : DataFull (start plan) h m → (i : ℕ) (d : Delivery) → Delivers (start plan) h m i d → DeliversAt plan h (m .stream) its-tick i d
-  unfolding its-tick
-  delivers-at full i d e =
+  timed₂ : TimedIn b₂
+  unfolding toSent
+  timed₂ =
       record {
-        logged = subst (λ (b : Bench). Has d (moduleAt i b .log)) (sym whole) (has-run d (m .rest) (seenAt (start plan) h m) i (newest .0));
-        timed =
-            subst (λ z. T (timedAt plan i z)) (sym (newest .1))
-            (is-timed plan (m .before) (m .since) (m .rest) (m .sender) (m .stream) (m .payload) its-request i);
-        stream = newest .1;
-        tick = one-tick plan (m .before) (m .since) (m .rest) (m .sender) (m .stream) (m .payload) its-request (m .accepted) (m .newest) full i d e;
+        even = λ i j l r. omega (arith, count i l, count j r);
+        last = λ some.
+            absurd (subst (λ ks. OS.Some (dataOf (nth noBook 0 ks))) (books-asked s b₁ (q .at-request .ledger) (m .sender) (m .payload) (m .accepted)) some);
+        logs = λ i. not-yet (ap (λ (x : Module). notes s (x .log)) (module-step b₁ request i)
+            ∙ either-way (λ (x : Module). notes s (x .log)) (isAccepted (m .sender) s (m .payload) b₁ && eqb i (m .sender)) refl refl);
       }
     where
-      newest : Has d (moduleAt i (seenAt (start plan) h m) .log) × (d .stream ≡ m .stream)
-      newest = newest-of (m .stream) d (delivered (m .stream) i (run (start plan) (m .before))) (moduleAt i (seenAt (start plan) h m) .log) e
+      request : Event
+      request = asks (m .sender) s (m .payload)
 
-      whole : run (start plan) h ≡ run (seenAt (start plan) h m) (m .rest)
-      whole =
-          ap (run (start plan)) (m .split)
-          ∙ (run-append (m .before) (asks (m .sender) (m .stream) (m .payload) ∷ (m .since ++ m .rest)) (start plan)
-          ∙ run-append (m .since) (m .rest) (step (run (start plan) (m .before)) (asks (m .sender) (m .stream) (m .payload))))
+      count : (i : ℕ) → T (isLive i b₂) → countOf b₂ i ≡ tickCount (m .before)
+      count i l = omega (arith, count-step b₁ request i l, count-run (m .before) b₀ i (live-back b₁ request i l) .0, count-at-start plan i)
 
+  timed₃ : TimedIn b₃
+  timed₃ =
+      timed-run D s (m .sender) (m .payload) (logsOf s b₁) (fits s (q .settings) (q .of) (q .lawful)) (now b₁) b₂
+      (valid-step (asks (m .sender) s (m .payload)) (q .at-request)) (q .track) (m .since) (m .rest) (q .keeps-on) (k .newest) timed₂
+
+  -- every module that delivers it does so dd + 1 ticks after the last sending of its data, which was full
+  its-tick : ℕ
+  its-tick = OS.last (dataOf (itsBook b₀ h m)) (m .sender) + D .dd + 1
+
+  one-tick : (i : ℕ) (d : Delivery) → Delivers b₀ h m i d → d .at ≡ its-tick
+  unfolding its-tick
+  one-tick i d e = go (timed₃ .logs i)
+    where
+      go : Told D s (m .sender) (m .payload) (logsOf s b₁) (itsBook b₀ h m) i (notes s (moduleAt i b₃ .log))
+          → d .at ≡ OS.last (dataOf (itsBook b₀ h m)) (m .sender) + D .dd + 1
+      go (not-yet q) =
+          let long : length (logsOf s b₁ i) ≡ suc (length (logsOf s b₁ i)) = ap length (sym q ∙ ap (map toNote) e) in
+          let z : ⊥ = omega arith in absurd z
+      go (told t q conf when) =
+          let same : toNote d ∷ logsOf s b₁ i ≡ record { at = t; bytes = m .payload } ∷ logsOf s b₁ i = sym (ap (map toNote) e) ∙ q in
+          let note : toNote d ≡ record { at = t; bytes = m .payload } = cc in
+          ap (λ (n : OC.Note). n .at) note ∙ when (full-was (itsBook b₀ h m .payloadFrame) (k .full))
+
+  delivers-at : (i : ℕ) (d : Delivery) → Delivers b₀ h m i d → DeliversAt plan h s its-tick i d
+  delivers-at i d e =
+      let newest = newest-of s d (delivered s i b₁) (moduleAt i b₃ .log) e in
+      record {
+        logged = subst (λ (b : Bench). Has d (moduleAt i b .log)) (sym (to-the-end b₀ h m)) (has-run d (m .rest) b₃ i (newest .0));
+        timed = subst (λ z. T (timedAt plan i z)) (sym (newest .1)) (is-timed i);
+        stream = newest .1;
+        tick = one-tick i d e;
+      }
+
+-- ── two messages ──
 -- the order depends on ticks and streams alone
 earlier-alike : (d e d′ e′ : Delivery) → d′ .at ≡ d .at → d′ .stream ≡ d .stream → e′ .at ≡ e .at → e′ .stream ≡ e .stream → Earlier d e → Earlier d′ e′
 earlier-alike d e d′ e′ p q r t = go (ap (λ (z : Stream). z .0) q) (ap (λ (z : Stream). z .0) t)
@@ -182,11 +181,11 @@ earlier-alike d e d′ e′ p q r t = go (ap (λ (z : Stream). z .0) q) (ap (λ 
     go q t (inr (x, y)) = inr (omega arith, omega arith)
 
 pub same-order : SameOrder
-same-order plan ok h keeps m n full full′ i j d d′ e e′ x x′ y y′ before =
-    let a = delivers-at plan ok h keeps m full i d x in
-    let a′ = delivers-at plan ok h keeps m full j d′ x′ in
-    let c = delivers-at plan ok h keeps n full′ i e y in
-    let c′ = delivers-at plan ok h keeps n full′ j e′ y′ in
+same-order plan ok h keeps m n k k′ i j d d′ e e′ x x′ y y′ before =
+    let a = delivers-at plan ok h keeps m k i d x in
+    let a′ = delivers-at plan ok h keeps m k j d′ x′ in
+    let c = delivers-at plan ok h keeps n k′ i e y in
+    let c′ = delivers-at plan ok h keeps n k′ j e′ y′ in
     earlier-before (timedAt plan j) d′ e′ (moduleAt j (run (start plan) h) .log) (in-order plan ok h j) (a′ .timed) (c′ .timed) (a′ .logged) (c′ .logged)
     (earlier-alike d e d′ e′ (a′ .tick ∙ sym (a .tick)) (a′ .stream ∙ sym (a .stream)) (c′ .tick ∙ sym (c .tick)) (c′ .stream ∙ sym (c .stream))
     (log-order plan ok h i d e (a .timed) (c .timed) before))

@@ -19,11 +19,12 @@ use Rattle.node.specs.NextFrame.{givenOut, payloadFor}
 use Rattle.node.specs.Reachable.{KeptMessage}
 use Rattle.node.specs.Slots.{isReceiver, payloadOf, same, sameBytes}
 use Rattle.node.specs.Tick.{late, due, holdOver, lapsed, tickSlot}
+use Rattle.node.proofs.Choices.{either-way}
 use Rattle.node.proofs.kept.EachSlot.{not-sender}
 use Rattle.one_stream.proofs.Truth.{and-r, is-true}
 use Rattle.one_stream.specs.Sendings as OS
 use Rattle.one_stream.specs.TwoM as OM
-use Rattle.bench.proofs.message.ClassOnBench.{toDelays, Shows, Receiving}
+use Rattle.bench.proofs.message.ClassOnBench.{toDelays, Receiving, newly, Becomes}
 
 unfoldable pub heldIn : Message → OM.Slot
 heldIn m = cond (m .held) (OM.held (m .stamp) (m .confirmed) (payloadOf m)) OM.empty
@@ -35,10 +36,35 @@ pub held-empty : (x : Slot) → x .message .held ≡ false → heldBy x ≡ OM.e
 unfolding heldIn
 held-empty x e = rw e refl
 
--- an abort has no payload
-pub abort-bare : (x : Slot) → payloadFor 2 x ≡ []
+-- what the slot holds, and whether an abort is pending
+record Shows (h : OM.Slot) (p : Bool) (x : Slot) : Type 0 where
+  holds : heldBy x ≡ h
+  pends : x .pending .abort ≡ p
+
+-- an abort that is caused while one is pending is the same frame, and none has a payload
+becomes : (D : OS.Delays) (x y : Slot) {h : OM.Slot} {caused : Bool} → Shows h (x .pending .abort || caused) y → Becomes (OM.twoM D) heldBy x h caused y
 unfolding payloadFor
-abort-bare x = refl
+becomes D x y {h} {caused} k =
+    record {
+      holds = k .holds;
+      pends = k .pends;
+      enters = ap (λ p. p && not (x .pending .abort)) (k .pends) ∙ go (x .pending .abort) caused;
+      carries = λ t. sym (either-way (λ l. l) (newly x y) refl refl);
+    }
+  where
+    go : (p c : Bool) → ((p || c) && not p) ≡ (c && not (true && p))
+    go true true = refl
+    go true false = refl
+    go false true = refl
+    go false false = refl
+
+or-false : (p : Bool) → p ≡ (p || false)
+or-false true = refl
+or-false false = refl
+
+-- where no abort is caused
+becomes-quietly : (D : OS.Delays) (x y : Slot) {h : OM.Slot} → Shows h (x .pending .abort) y → Becomes (OM.twoM D) heldBy x h false y
+becomes-quietly D x y {h} k = becomes D x y (subst (λ p. Shows h p y) (or-false (x .pending .abort)) k)
 
 -- ── the node's test of a duplicate is the one on bytes ──
 same-length : (a b : List ℕ) → T (OM.sameBytes a b) → length a ≡ length b
@@ -73,14 +99,14 @@ same-is now set m k p =
         go′ false = refl
 
 -- ── hearing ──
-pub data-shows : (now : ℕ) (x : Slot) → KeptMessage now (x .settings) (x .message) → (p : List ℕ)
-    → Shows heldBy (OM.dataSlot now p (heldBy x)) (x .pending .abort) (cond (not (clashes 0 p x)) (heardBy now 0 p x) x)
+data-shows : (now : ℕ) (x : Slot) → KeptMessage now (x .settings) (x .message) → (p : List ℕ)
+    → Shows (OM.dataSlot now p (heldBy x)) (x .pending .abort) (cond (not (clashes 0 p x)) (heardBy now 0 p x) x)
 unfolding heldIn heardBy
 data-shows now x k p = go (x .message .held) refl (same (x .message) p) refl (same-is now (x .settings) (x .message) k p)
   where
     go : (h : Bool) → x .message .held ≡ h → (t : Bool) → same (x .message) p ≡ t
         → same (x .message) p ≡ OM.sameBytes (payloadOf (x .message)) p
-        → Shows heldBy (OM.dataSlot now p
+        → Shows (OM.dataSlot now p
         (cond (x .message .held) (OM.held (x .message .stamp) (x .message .confirmed) (payloadOf (x .message))) OM.empty))
         (x .pending .abort) (cond (not (x .message .held && not (same (x .message) p))) (dataHeard now p x) x)
     go false e t f tests =
@@ -92,13 +118,13 @@ data-shows now x k p = go (x .message .held) refl (same (x .message) p) refl (sa
         let g : OM.sameBytes (payloadOf (x .message)) p ≡ false = sym tests ∙ f in
         record { holds = rw (e, f, g) refl; pends = rw (e, f) refl }
 
-pub conf-shows : (now : ℕ) (x : Slot)
-    → Shows heldBy (OM.confSlot (heldBy x)) (x .pending .abort || OM.isEmpty (heldBy x)) (heardBy now 1 [] x)
+conf-shows : (now : ℕ) (x : Slot)
+    → Shows (OM.confSlot (heldBy x)) (x .pending .abort || OM.isEmpty (heldBy x)) (heardBy now 1 [] x)
 unfolding heldIn heardBy
 conf-shows now x = go (x .message .held) refl (x .pending .abort) refl
   where
     go : (h : Bool) → x .message .held ≡ h → (p : Bool) → x .pending .abort ≡ p
-        → Shows heldBy (OM.confSlot
+        → Shows (OM.confSlot
         (cond (x .message .held) (OM.held (x .message .stamp) (x .message .confirmed) (payloadOf (x .message))) OM.empty))
         (x .pending .abort || OM.isEmpty (cond (x .message .held)
         (OM.held (x .message .stamp) (x .message .confirmed) (payloadOf (x .message))) OM.empty))
@@ -108,17 +134,28 @@ conf-shows now x = go (x .message .held) refl (x .pending .abort) refl
     go false e true f = record { holds = rw e refl; pends = rw (e, f) refl }
     go false e false f = record { holds = rw e refl; pends = rw (e, f) refl }
 
-pub abort-shows : (now : ℕ) (x : Slot) → Shows heldBy OM.empty (x .pending .abort) (heardBy now 2 [] x)
+abort-shows : (now : ℕ) (x : Slot) → Shows OM.empty (x .pending .abort) (heardBy now 2 [] x)
 unfolding heldIn heardBy
 abort-shows now x = go (x .message .held) refl
   where
-    go : (h : Bool) → x .message .held ≡ h → Shows heldBy OM.empty (x .pending .abort) (abortHeard x)
+    go : (h : Bool) → x .message .held ≡ h → Shows OM.empty (x .pending .abort) (abortHeard x)
     go true e = record { holds = rw e refl; pends = rw e refl }
     go false e = record { holds = rw e refl; pends = rw e refl }
 
-pub given-shows : (x : Slot) → Shows heldBy (heldBy x) false (givenOut 2 x)
+module _ (D : OS.Delays) (now : ℕ) (x : Slot) where
+  pub data-becomes : KeptMessage now (x .settings) (x .message) → (p : List ℕ)
+      → Becomes (OM.twoM D) heldBy x (OM.dataSlot now p (heldBy x)) false (cond (not (clashes 0 p x)) (heardBy now 0 p x) x)
+  data-becomes k p = becomes-quietly D x (cond (not (clashes 0 p x)) (heardBy now 0 p x) x) (data-shows now x k p)
+
+  pub conf-becomes : Becomes (OM.twoM D) heldBy x (OM.confSlot (heldBy x)) (OM.isEmpty (heldBy x)) (heardBy now 1 [] x)
+  conf-becomes = becomes D x (heardBy now 1 [] x) (conf-shows now x)
+
+  pub abort-becomes : Becomes (OM.twoM D) heldBy x OM.empty false (heardBy now 2 [] x)
+  abort-becomes = becomes-quietly D x (heardBy now 2 [] x) (abort-shows now x)
+
+pub given-becomes : (x : Slot) → (heldBy (givenOut 2 x) ≡ heldBy x) × (givenOut 2 x .pending .abort ≡ false)
 unfolding givenOut
-given-shows x = record { holds = refl; pends = refl }
+given-becomes x = (refl, refl)
 
 -- the class's row of the table
 pub carries-two : (c : ℕ) → c ≤ 2 → carries 2 c ≡ true
@@ -184,7 +221,7 @@ module _ {D : OS.Delays} (now : ℕ) (x : Slot) (k : Receiving 2 D now x) where
       none true = refl
       none false = refl
 
-  pub tick-shows : Shows heldBy (cond (OM.late D t h || OM.due D t h) OM.empty h) (x .pending .abort || OM.late D t h) (tickSlot unbounded t x)
+  tick-shows : Shows (cond (OM.late D t h || OM.due D t h) OM.empty h) (x .pending .abort || OM.late D t h) (tickSlot unbounded t x)
   unfolding lapsed heldIn
   tick-shows = go (OM.late D t h) (OM.due D t h) late-is due-is
     where
@@ -192,15 +229,14 @@ module _ {D : OS.Delays} (now : ℕ) (x : Slot) (k : Receiving 2 D now x) where
       or-true true = refl
       or-true false = refl
 
-      or-false : (p : Bool) → p ≡ (p || false)
-      or-false true = refl
-      or-false false = refl
-
       go : (l d : Bool) → late age x ≡ l → due age x ≡ d
-          → Shows heldBy (cond (l || d) OM.empty h) (x .pending .abort || l) (tickSlot unbounded t x)
+          → Shows (cond (l || d) OM.empty h) (x .pending .abort || l) (tickSlot unbounded t x)
       go true d el ed = record { holds = rw el refl; pends = rw el (or-true (x .pending .abort)) }
       go false true el ed = record { holds = rw (el, ed) refl; pends = rw (el, ed) (or-false (x .pending .abort)) }
       go false false el ed = let eh = no-hold in record { holds = rw (el, ed, eh) refl; pends = rw (el, ed, eh) (or-false (x .pending .abort)) }
+
+  pub tick-becomes : Becomes (OM.twoM D) heldBy x (cond (OM.late D t h || OM.due D t h) OM.empty h) (OM.late D t h) (tickSlot unbounded t x)
+  tick-becomes = becomes D x (tickSlot unbounded t x) tick-shows
 
   pub delivers-held : T (OM.due D t h) → payloadOf (x .message) ≡ OM.bytesOf h
   unfolding heldIn

@@ -18,10 +18,12 @@ use Rattle.one_stream.proofs.TwoMEnd.{twoMWorks}
 use Rattle.one_stream.specs.Sendings as OS
 use Rattle.one_stream.specs.TwoM as OM
 use Rattle.bench.proofs.message.ClassOnBench.{toDelays, OfClass, ClassOnBench, OnBench}
+use Rattle.bench.specs.Bench.{theConfirmation}
 use Rattle.bench.proofs.message.ModuleSeen.{good-frame}
+use Rattle.bench.proofs.message.RulesSeen.{in-turn}
 use Rattle.bench.proofs.message.SendingsSeen.{sent-was}
-use Rattle.bench.proofs.two_message.SlotSeen.{heldBy, held-empty, abort-bare, carries-two, data-shows, conf-shows, abort-shows, given-shows}
-use Rattle.bench.proofs.two_message.SlotSeen.{due-is, tick-shows, delivers-held}
+use Rattle.bench.proofs.two_message.SlotSeen.{heldBy, held-empty, carries-two, data-becomes, conf-becomes, abort-becomes, given-becomes}
+use Rattle.bench.proofs.two_message.SlotSeen.{due-is, tick-becomes, delivers-held}
 
 -- the numbers of settings that are taken fit
 pub fits : (s : Stream) (set : Settings) → T (eqb (set .class) 2) → T (legal s set) → OM.Fit (toDelays set)
@@ -52,19 +54,17 @@ twoMessage D fit =
       held = heldBy;
       idle = held-empty;
       carries = carries-two;
-      gives = λ x p. abort-bare x;
       good = λ s small p short. good-frame s 2 [] small (omega arith) (omega arith) (λ c. refl);
-      onData = λ now x k p. data-shows now x (k .kept .message) p;
-      onConf = λ now x k. conf-shows now x;
-      onCode2 = λ now x k p. abort-shows now x;
-      onGiven = λ now x k. given-shows x;
-      onTick = λ now x k. tick-shows now x k;
+      onData = λ now x k p. data-becomes D now x (k .kept .message) p;
+      onConf = λ now x k. conf-becomes D now x;
+      onCode2 = λ now x k p. abort-becomes D now x;
+      onGiven = λ now x k. given-becomes x;
+      onTick = λ now x k. tick-becomes now x k;
       due = λ now x k. due-is now x k;
       delivers = λ now x k. delivers-held now x k;
       hold = hold-is D;
-      ready = λ f t. sent-was f t;
+      ready = λ b s k of t. sent-was (k .payloadFrame) (in-turn b s k theConfirmation t);
       done = λ f t. sent-was f t;
-      merges = refl;
       untold = λ now h. refl;
     }
 

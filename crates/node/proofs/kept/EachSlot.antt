@@ -17,8 +17,8 @@ use Rattle.wire.specs.Frames.{maxPayload}
 use Rattle.node.specs.declared.slots.Message.{Message}
 use Rattle.node.specs.declared.slots.Pending.{Pending}
 use Rattle.node.specs.declared.slots.Slot.{Slot}
-use Rattle.node.specs.Slots.{padded, nothing, holding, keeping, restamped, confirmed, released, nonePending, abortPending, empty, isReceiver}
-use Rattle.node.specs.Slots.{isSender, withParts, withMessage}
+use Rattle.node.specs.Slots.{padded, noMessage, holding, keeping, restamped, confirmed, released, nonePending, abortPending, empty, isReceiver}
+use Rattle.node.specs.Slots.{frames, isSender, withParts, withMessage}
 use Rattle.node.specs.SetUp.{slotFor}
 use Rattle.node.specs.Reachable.{longest, KeptMessage, KeptPending, KeptSlot}
 use Rattle.node.specs.Hear.{dataHeard, confirmationHeard, abortHeard, heardBy}
@@ -51,7 +51,7 @@ payload-padded payload small =
     }
 
 module _ (now : ℕ) (s : Settings) (m : Message) (p : Padded (m .len) (m .bytes)) where
-  kept-unheld : m .held ≡ false → m .confirmed ≡ false → m .stamp ≡ 0 → (receives s ≡ true → m ≡ nothing) → KeptMessage now s m
+  kept-unheld : m .held ≡ false → m .confirmed ≡ false → m .stamp ≡ 0 → (receives s ≡ true → m ≡ noMessage) → KeptMessage now s m
   kept-unheld unheld unconfirmed no-stamp idle =
       record {
         short = p .short;
@@ -80,9 +80,9 @@ module _ (now : ℕ) (s : Settings) (m : Message) (p : Padded (m .len) (m .bytes
         confirmed-held = λ h. (held, given h .0, given h .1);
       }
 
-pub kept-nothing : (now : ℕ) (s : Settings) → KeptMessage now s nothing
+pub kept-nothing : (now : ℕ) (s : Settings) → KeptMessage now s noMessage
 kept-nothing now s =
-    kept-unheld now s nothing (record { short = omega arith; eight-bytes = refl; zeros-after = refl }) refl refl refl (λ r. refl)
+    kept-unheld now s noMessage (record { short = omega arith; eight-bytes = refl; zeros-after = refl }) refl refl refl (λ r. refl)
 
 -- a message taken up now
 kept-holding : (now : ℕ) (s : Settings) (payload : List ℕ) → length payload ≤ maxPayload → isPlain s ≡ false
@@ -216,8 +216,8 @@ kept-lapsed now x k = by-tests (late age x) (due age x) (holdOver age x) refl re
 
     by-tests : (l d o : Bool) → late age x ≡ l → due age x ≡ d → holdOver age x ≡ o
         → KeptSlot (now + 1)
-        (cond l (withParts x nothing (abortPending (x .pending)))
-        (cond d (withMessage nothing x)
+        (cond l (withParts x noMessage (abortPending (x .pending)))
+        (cond d (withMessage noMessage x)
         (cond o (withMessage (released (x .message)) x) x)))
     by-tests true d o is-late _ _ =
         let t = late-tells age x .says is-late in
@@ -271,7 +271,7 @@ module _ (now : ℕ) (x : Slot) (k : KeptSlot now x) where
   kept-aborted : x .used ≡ true → KeptSlot now (abortHeard x)
   kept-aborted used = by-held (x .message .held)
     where
-      by-held : (h : Bool) → KeptSlot now (cond h (withMessage nothing x) x)
+      by-held : (h : Bool) → KeptSlot now (cond h (withMessage noMessage x) x)
       by-held true = kept-parts now x k used _ _ (kept-nothing now _) (k .pending)
       by-held false = k
 
@@ -312,9 +312,9 @@ module _ (now : ℕ) (x : Slot) (k : KeptSlot now x) where
       p = x .pending
 
       by-code : (c₁ c₂ : Bool) → KeptPending (x .settings)
-          (cond c₁ (record { payload = p .payload; confirmation = false; abort = p .abort })
-          (cond c₂ (record { payload = p .payload; confirmation = p .confirmation; abort = false })
-          (record { payload = false; confirmation = p .confirmation; abort = p .abort })))
+          (cond c₁ (frames (p .payload) false (p .abort))
+          (cond c₂ (frames (p .payload) (p .confirmation) false)
+          (frames false (p .confirmation) (p .abort))))
       by-code true c₂ =
           record { payload-sent = k .pending .payload-sent; confirmation-sent = λ h. contrary h refl; abort-received = k .pending .abort-received }
       by-code false true =

@@ -8,7 +8,7 @@ use Rattle.wire.specs.declared.reply.Reply.the-variants.{Misfit, Clash, Nothing
 use Rattle.wire.specs.Classes.{carries}
 use Rattle.wire.specs.Delivered.{recordOf}
 use Rattle.wire.specs.Frames.{badFrame}
-use Rattle.wire.specs.Settings.{legal}
+use Rattle.wire.specs.Settings.{ofPlain, legal}
 use Rattle.node.specs.Slots.{holding, sameBytes, first, onFirst, some}
 use Rattle.node.specs.Nodes.{slotOf, refused, done}
 use Rattle.node.specs.Clock.{rolled}
@@ -79,7 +79,7 @@ listing-adds = refl
 
 -- in the rules paper it is delivered and not kept: the node stays as it was
 plain-five : List Call
-plain-five = Call.setUp five (record { rd = 0; dc = 0; ra = 0; dd = 0; role = receiver; class = 0 }) ∷ []
+plain-five = Call.setUp five (ofPlain receiver) ∷ []
 
 plain-data : Call
 plain-data = Call.hear (record { 0 = 23 }) 2 bytes (replicate hearRoom 0)

@@ -9,7 +9,7 @@ use lib.Dec.{ltb}
 use borrow.Author.Tests.{ltb-true, ltb-false, lt-ltb, le-ltb}
 use Rattle.wire.specs.Settings.{receives, sends, isImd, isTwoMessage}
 use Rattle.node.specs.declared.slots.Slot.{Slot}
-use Rattle.node.specs.Slots.{nothing, abortPending, withParts, withMessage}
+use Rattle.node.specs.Slots.{noMessage, abortPending, withParts, withMessage}
 use Rattle.node.specs.Hear.{heardBy}
 use Rattle.node.specs.Request.{requested}
 use Rattle.node.specs.NextFrame.{payloadFor, givenOut}
@@ -114,7 +114,7 @@ module _ (now : ℕ) (x : Slot) (used : x .used ≡ true) (r : receives (x .sett
 
       by-time : (t : Bool) → ltb (x .message .stamp + x .settings .dc) now ≡ t → Ticked now x (deliverOrAbort now (listed x))
       by-time true et =
-          let dropped : lapsed age x ≡ withParts x nothing (abortPending (x .pending)) = rw (late-is e ec ∙ et) in
+          let dropped : lapsed age x ≡ withParts x noMessage (abortPending (x .pending)) = rw (late-is e ec ∙ et) in
           let ruled : deliverOrAbort now (listed x) ≡ aborts = rw (e, ec, et) in
           rw ruled (record { same-set = rw dropped; same-aborts = rw dropped (sym (or-true (x .pending .abort))) }, rw not-due)
       by-time false et = still-follows (late-is e ec ∙ et) not-due (rw (e, ec, et))
@@ -130,7 +130,7 @@ module _ (now : ℕ) (x : Slot) (used : x .used ≡ true) (r : receives (x .sett
       by-time : (t : Bool) → ltb (x .message .stamp + x .settings .dd) now ≡ t → Ticked now x (deliverOrAbort now (listed x))
       by-time true et =
           let is-due : due age x ≡ true = due-is e ec ∙ et in
-          let gone : lapsed age x ≡ withMessage nothing x = rw (not-late, is-due) in
+          let gone : lapsed age x ≡ withMessage noMessage x = rw (not-late, is-due) in
           let m = received (x .settings) (x .message) in
           let ruled : deliverOrAbort now (listed x) ≡ delivers (m .payload) (m .times) = rw (e, ec, et) in
           rw ruled (record { same-set = rw gone; same-aborts = rw gone (sym (or-false (x .pending .abort))) }, rw is-due)

@@ -16,7 +16,7 @@ use Rattle.node.specs.declared.slots.Slot.{Slot}
 use Rattle.node.specs.declared.Node.{Node}
 use Rattle.node.specs.declared.Given.{Given}
 use Rattle.node.specs.Slots.{isOf}
-use Rattle.node.specs.Nodes.{withSlots, Outcome, refused, given}
+use Rattle.node.specs.Nodes.{withSlots, Outcome, refused, asGiven}
 use Rattle.node.specs.Request.{hasPending}
 use Rattle.node.specs.NextFrame.{nextRoom, pendingCodes, pendingIn, pendingIds, givenOut, payloadFor, give, nextFrame}
 use Rattle.node.specs.Selection.{lowestOrAbove}
@@ -47,22 +47,22 @@ lowest-passed l i d some-left inside nothing =
 
 module _ (output : List ℕ) (n : Node) where
   abbrev Answers : Given → (written : List ℕ) → Type 0
-  Answers = PromisedWritten (Call.nextFrame output) n given output
+  Answers = PromisedWritten (Call.nextFrame output) n asGiven output
 
-  answers : (o : Outcome) → o ≡ nextFrame output n → Answers (given o) (over (o .bytes) output)
-  answers o e = promised-written (Call.nextFrame output) n given output o e
+  answers : (o : Outcome) → o ≡ nextFrame output n → Answers (asGiven o) (over (o .bytes) output)
+  answers o e = promised-written (Call.nextFrame output) n asGiven output o e
 
-  refused-at : (low : ℕ) → low ≡ lowestOrAbove (pendingIds (n .slots)) → {r : Reply} → Refuses (refusalsByLowest output low) r → Answers (given (refused n r)) output
+  refused-at : (low : ℕ) → low ≡ lowestOrAbove (pendingIds (n .slots)) → {r : Reply} → Refuses (refusalsByLowest output low) r → Answers (asGiven (refused n r)) output
   refused-at low is-lowest {r} why = answers (refused n r) (sym (next-cases output n .refused-if r (rw (← is-lowest) why)))
 
-  pub short-output : length output < nextRoom → Answers (given (refused n ShortOutput)) output
+  pub short-output : length output < nextRoom → Answers (asGiven (refused n ShortOutput)) output
   short-output h = refused-at _ refl (here (lt-ltb _ _ h))
 
   module _ (room : nextRoom ≤ length output) (low : ℕ) (is-lowest : low ≡ lowestOrAbove (pendingIds (n .slots))) where
     abbrev id : BusId
     id = record { 0 = low }
 
-    pub none-pending : maxBusId < low → Answers (given (refused n Nothing)) output
+    pub none-pending : maxBusId < low → Answers (asGiven (refused n Nothing)) output
     none-pending h = refused-at low is-lowest (later (le-ltb _ _ room) (here (lt-ltb _ _ h)))
 
     module _ (in-range : low ≤ maxBusId) (parts : Parts) (apart : parts ≡ split id) (i : ℕ)

@@ -12,7 +12,7 @@ use Rattle.wire.specs.declared.reply.Reply.the-variants.{BadLength, NotSender, 
 use Rattle.node.specs.declared.slots.Slot.{Slot}
 use Rattle.node.specs.declared.Node.{Node}
 use Rattle.node.specs.Slots.{empty, isOf, isSender}
-use Rattle.node.specs.Nodes.{slotOf, withSlots, Outcome, refused, done, answered}
+use Rattle.node.specs.Nodes.{slotOf, withSlots, Outcome, refused, done, asAnswered}
 use Rattle.node.specs.Request.{busy, requested, requestRefusals, request}
 use Rattle.node.specs.Calls.{Call}
 use Rattle.node.proofs.Cases.{Refuses, here, later}
@@ -22,10 +22,10 @@ use Rattle.node.proofs.rollover.Promises.{Promised, promised}
 
 module _ (s : Stream) (payload : List ℕ) (n : Node) where
   abbrev Answers : Outcome → Type 0
-  Answers o = Promised (Call.request s payload) n answered (answered o)
+  Answers o = Promised (Call.request s payload) n asAnswered (asAnswered o)
 
   answers : (o : Outcome) → o ≡ request s payload n → Answers o
-  answers o e = promised (Call.request s payload) n answered o e
+  answers o e = promised (Call.request s payload) n asAnswered o e
 
   refused-at : (x : Slot) → slotOf s n ≡ x → {r : Reply} → Refuses (requestRefusals payload x) r → Answers (refused n r)
   refused-at x there {r} why = answers (refused n r) (sym (request-cases payload s n .refused-if r (rw there why)))

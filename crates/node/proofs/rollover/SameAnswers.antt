@@ -13,7 +13,7 @@ use Rattle.wire.specs.Settings.{sends, isPlain, isTwoMessage, maxDataReach, max
 use Rattle.node.specs.declared.slots.Message.{Message}
 use Rattle.node.specs.declared.slots.Slot.{Slot}
 use Rattle.node.specs.declared.Node.{Node}
-use Rattle.node.specs.Slots.{restamped, isOf, isFree, isReceiver, isSender, withParts, withMessage}
+use Rattle.node.specs.Slots.{restamped, frames, isOf, isFree, isReceiver, isSender, withParts, withMessage}
 use Rattle.node.specs.Nodes.{fresh, slotOf, onSlot, Outcome, Refusals, unlessRefused, done}
 use Rattle.node.specs.Clock.{period, unbounded, rolled}
 use Rattle.node.specs.SetUp.{slotFor, setUpRefusals, setUp}
@@ -79,7 +79,7 @@ requested-rolls : (now : ℕ) (payload : List ℕ) (x : Slot)
     → rollSlot (requested now payload x) ≡ requested (now % period) payload (rollSlot x)
 unfolding requested
 requested-rolls now payload x =
-    ap (λ (m : Message). withParts x m (record { payload = true; confirmation = isTwoMessage (x .settings); abort = false }))
+    ap (λ (m : Message). withParts x m (frames true (isTwoMessage (x .settings)) false))
     (into rollMessage (isPlain (x .settings)) refl refl)
 
 request-rolls : (s : Stream) (payload : List ℕ) (u : Node) → rollOutcome (request s payload u) ≡ request s payload (roll u)

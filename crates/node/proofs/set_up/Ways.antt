@@ -13,7 +13,7 @@ use Rattle.wire.specs.Settings.{legal}
 use Rattle.node.specs.declared.slots.Slot.{Slot}
 use Rattle.node.specs.declared.Node.{Node}
 use Rattle.node.specs.Slots.{empty, isFree, isOf, some}
-use Rattle.node.specs.Nodes.{hasSlot, withSlots, Outcome, refused, done, answered}
+use Rattle.node.specs.Nodes.{hasSlot, withSlots, Outcome, refused, done, asAnswered}
 use Rattle.node.specs.SetUp.{slotFor, setUpRefusals, setUp}
 use Rattle.node.specs.Calls.{Call}
 use Rattle.node.proofs.Cases.{Refuses, here, later}
@@ -23,10 +23,10 @@ use Rattle.node.proofs.slots.Finding.{indexOf, found, missed}
 
 module _ (s : Stream) (settings : Settings) (n : Node) where
   abbrev Answers : Outcome → Type 0
-  Answers o = Promised (Call.setUp s settings) n answered (answered o)
+  Answers o = Promised (Call.setUp s settings) n asAnswered (asAnswered o)
 
   answers : (o : Outcome) → o ≡ setUp s settings n → Answers o
-  answers o e = promised (Call.setUp s settings) n answered o e
+  answers o e = promised (Call.setUp s settings) n asAnswered o e
 
   refused-for : {r : Reply} → Refuses (setUpRefusals s settings n) r → Answers (refused n r)
   refused-for {r} why = answers (refused n r) (sym (set-up-cases s settings n .refused-if r why))

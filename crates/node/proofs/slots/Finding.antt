@@ -14,6 +14,7 @@ use borrow.Author.Tests.{leb-true, leb-false}
 use Rattle.wire.specs.declared.ids.Stream.{Stream}
 use Rattle.node.specs.declared.slots.Slot.{Slot}
 use Rattle.node.specs.declared.Node.{Node}
+use Rattle.wire.specs.Settings.{noSettings}
 use Rattle.node.specs.Slots.{nonePending, empty, isOf, first, onFirst, some}
 use Rattle.node.specs.Nodes.{slotOf, withSlots, onSlot}
 
@@ -27,7 +28,7 @@ abbrev pub noSlot : Slot
 noSlot =
     record {
       stream = record { 0 = 0 };
-      settings = record { rd = 0; dc = 0; ra = 0; dd = 0; role = 0; class = 0 };
+      settings = noSettings;
       message = record { stamp = 0; len = 0; held = false; confirmed = false; bytes = [] };
       pending = nonePending;
       used = false;

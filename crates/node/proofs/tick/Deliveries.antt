@@ -12,7 +12,7 @@ use Rattle.wire.specs.declared.settings.Settings.{Settings}
 use Rattle.wire.specs.Tells.{Tells}
 use Rattle.wire.specs.Classes.{carries}
 use Rattle.wire.specs.Frames.{badFrame}
-use Rattle.wire.specs.Settings.{legal}
+use Rattle.wire.specs.Settings.{ofImd, legal}
 use Rattle.wire.specs.Delivered.{recordOf}
 use Rattle.node.specs.declared.slots.Slot.{Slot}
 use Rattle.node.specs.Slots.{isOf, first, onFirst, some}
@@ -117,7 +117,7 @@ module _ (clock : Clock) (now : ℕ) where
 
 -- ── not in slot order ──
 abbrev imd : Settings
-imd = record { rd = 1; dc = 0; ra = 0; dd = 1; role = 0; class = 1 }
+imd = ofImd 0 1 1
 
 abbrev nine : Stream
 nine = record { 0 = 9 }

@@ -10,7 +10,7 @@ use Rattle.wire.specs.Delivered.{over}
 use Rattle.node.specs.declared.Node.{Node}
 use Rattle.node.specs.declared.Delivered.{Delivered}
 use Rattle.node.specs.Slots.{some}
-use Rattle.node.specs.Nodes.{done, delivered}
+use Rattle.node.specs.Nodes.{done, asDelivered}
 use Rattle.node.specs.Clock.{Clock, rolled}
 use Rattle.node.specs.Tick.{tickRoom, tickSlot, dueSlots, recordsFrom, ticked, tick}
 use Rattle.node.specs.Calls.{Call}
@@ -22,12 +22,12 @@ use Rattle.node.proofs.tick.Loops.{stirsAt, still-tick}
 -- the answer, and what stands in the output, are those of the definition
 abbrev pub Ticked : Clock → Node → (output : List ℕ) → Delivered → (left : List ℕ) → Type 0
 Ticked clock n output r left =
-    (r ≡ delivered (tick clock output n)) × (left ≡ over (tick clock output n .bytes) output)
+    (r ≡ asDelivered (tick clock output n)) × (left ≡ over (tick clock output n .bytes) output)
 
 -- what holds with counts that roll over holds with counts without bound too
 pub exact-and-unbounded : (n : Node) (output : List ℕ) (r : Delivered) (left : List ℕ) → Ticked rolled n output r left
-    → PromisedWritten (Call.tick output) n delivered output r left
-exact-and-unbounded n output r left t = promised-exact (Call.tick output) n delivered output t
+    → PromisedWritten (Call.tick output) n asDelivered output r left
+exact-and-unbounded n output r left t = promised-exact (Call.tick output) n asDelivered output t
 
 module _ (clock : Clock) (n : Node) (output : List ℕ) where
   pub tick-refused : length output < tickRoom → Ticked clock n output (record { node = n; reply = ShortOutput; written = 0 }) output

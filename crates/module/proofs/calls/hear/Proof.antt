@@ -47,7 +47,7 @@ use Rattle.wire.proofs.ids.BusId as B
 use Rattle.wire.proofs.ids.BusId.Laws as B′
 use Rattle.node.specs.declared.Node.{Node}
 use Rattle.node.specs.declared.Delivered.{Delivered}
-use Rattle.node.specs.Nodes.{Outcome, delivered}
+use Rattle.node.specs.Nodes.{Outcome, asDelivered}
 use Rattle.node.specs.Hear as hearing
 use Rattle.node.specs.Clock.{rolled, unbounded}
 use Rattle.node.specs.Calls.{Call, after, rollOutcome}
@@ -135,13 +135,13 @@ module _ {M : Type 1} (𝓤 : URA M) (H : Heap 𝓤) (A : Atoms 𝓤) (W : Given
 
   -- what it says of its answer and of the output
   abbrev Said : Delivered → List ℕ → Type 0
-  Said r zs = (r ≡ delivered o) × (zs ≡ over (o .bytes) (u .now))
+  Said r zs = (r ≡ asDelivered o) × (zs ≡ over (o .bytes) (u .now))
 
   -- and, not used here, with counts without bound
   abbrev Besides : Delivered → List ℕ → Type 0
   Besides r zs =
       (h : List Call) → n ≡ after rolled h
-      → (r ≡ delivered (rollOutcome (hearing.hear id dlc (p .now) (u .now) (after unbounded h))))
+      → (r ≡ asDelivered (rollOutcome (hearing.hear id dlc (p .now) (u .now) (after unbounded h))))
       × (zs ≡ over (hearing.hear id dlc (p .now) (u .now) (after unbounded h) .bytes) (u .now))
 
   abbrev Post : Val → SProp 𝓤

@@ -43,7 +43,7 @@ use denote.Exit.{yes}
 use Rattle.wire.specs.Delivered.{over}
 use Rattle.node.specs.declared.Node.{Node}
 use Rattle.node.specs.declared.Given.{Given as GivenFrame}
-use Rattle.node.specs.Nodes.{Outcome, given}
+use Rattle.node.specs.Nodes.{Outcome, asGiven}
 use Rattle.node.specs.NextFrame as giving
 use Rattle.node.specs.Clock.{rolled, unbounded}
 use Rattle.node.specs.Calls.{Call, after, rollOutcome}
@@ -109,13 +109,13 @@ module _ {M : Type 1} (𝓤 : URA M) (H : Heap 𝓤) (A : Atoms 𝓤) (W : Given
 
   -- what it says of its answer and of the output
   abbrev Said : GivenFrame → List ℕ → Type 0
-  Said r zs = (r ≡ given o) × (zs ≡ over (o .bytes) (u .now))
+  Said r zs = (r ≡ asGiven o) × (zs ≡ over (o .bytes) (u .now))
 
   -- and, not used here, with counts without bound
   abbrev Besides : GivenFrame → List ℕ → Type 0
   Besides r zs =
       (h : List Call) → n ≡ after rolled h
-      → (r ≡ given (rollOutcome (giving.nextFrame (u .now) (after unbounded h))))
+      → (r ≡ asGiven (rollOutcome (giving.nextFrame (u .now) (after unbounded h))))
       × (zs ≡ over (giving.nextFrame (u .now) (after unbounded h) .bytes) (u .now))
 
   abbrev Post : Val → SProp 𝓤

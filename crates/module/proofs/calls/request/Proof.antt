@@ -45,7 +45,7 @@ use Rattle.wire.proofs.ids.Stream as I
 use Rattle.wire.proofs.ids.Stream.Laws as I′
 use Rattle.node.specs.declared.Node.{Node}
 use Rattle.node.specs.declared.Answered.{Answered}
-use Rattle.node.specs.Nodes.{Outcome, answered}
+use Rattle.node.specs.Nodes.{Outcome, asAnswered}
 use Rattle.node.specs.Request as requesting
 use Rattle.node.specs.Clock.{rolled, unbounded}
 use Rattle.node.specs.Calls.{Call, after, rollOutcome}
@@ -120,10 +120,10 @@ module _ {M : Type 1} (𝓤 : URA M) (H : Heap 𝓤) (A : Atoms 𝓤) (W : Given
 
   -- what it says of its answer; and, not used here, with counts without bound
   abbrev Said : Answered → Type 0
-  Said r = r ≡ answered o
+  Said r = r ≡ asAnswered o
 
   abbrev Besides : Answered → Type 0
-  Besides r = (h : List Call) → n ≡ after rolled h → r ≡ answered (rollOutcome (requesting.request s (p .now) (after unbounded h)))
+  Besides r = (h : List Call) → n ≡ after rolled h → r ≡ asAnswered (rollOutcome (requesting.request s (p .now) (after unbounded h)))
 
   abbrev Post : Val → SProp 𝓤
   Post = walkOf 𝓤 H A f.ended stayed (f.clauses 𝓤 H A mem run) .post (((κ₀, (κ₁, tt)), (q₀, (q₁, tt)), tt, a, at), tt)

@@ -44,7 +44,7 @@ use Rattle.wire.proofs.settings.Settings as Q
 use Rattle.wire.proofs.settings.Settings.Laws as Q′
 use Rattle.node.specs.declared.Node.{Node}
 use Rattle.node.specs.declared.Answered.{Answered}
-use Rattle.node.specs.Nodes.{Outcome, answered}
+use Rattle.node.specs.Nodes.{Outcome, asAnswered}
 use Rattle.node.specs.SetUp as setting
 use Rattle.node.specs.Clock.{rolled, unbounded}
 use Rattle.node.specs.Calls.{Call, after, rollOutcome}
@@ -117,10 +117,10 @@ module _ {M : Type 1} (𝓤 : URA M) (H : Heap 𝓤) (A : Atoms 𝓤) (W : Given
 
   -- what it says of its answer; and, not used here, with counts without bound
   abbrev Said : Answered → Type 0
-  Said r = r ≡ answered o
+  Said r = r ≡ asAnswered o
 
   abbrev Besides : Answered → Type 0
-  Besides r = (h : List Call) → n ≡ after rolled h → r ≡ answered (rollOutcome (setting.setUp s settings (after unbounded h)))
+  Besides r = (h : List Call) → n ≡ after rolled h → r ≡ asAnswered (rollOutcome (setting.setUp s settings (after unbounded h)))
 
   abbrev Post : Val → SProp 𝓤
   Post = walkOf 𝓤 H A f.ended stayed (f.clauses 𝓤 H A mem run) .post (((κ₀, tt), (q₀, tt), tt, a, at), tt)

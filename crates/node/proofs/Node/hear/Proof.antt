@@ -16,7 +16,7 @@ use Rattle.wire.specs.Frames.{maxPayload, badFrame}
 use Rattle.node.specs.declared.slots.Slot.{Slot}
 use Rattle.node.specs.declared.Node.{Node}
 use Rattle.node.specs.Slots.{isOf, isReceiver}
-use Rattle.node.specs.Nodes.{delivered}
+use Rattle.node.specs.Nodes.{asDelivered}
 use Rattle.node.specs.Hear.{hearRoom, deliveredAtOnce}
 use Rattle.node.specs.Calls.{Call}
 use Rattle.wire.proofs.Frames.{frame-length}
@@ -54,14 +54,14 @@ module _ (s : tie.Start Inv-loop μ-loop) where
 returns : tie.Need-returns Inv-loop μ-loop
 returns c =
     let s = c .before .before .before in
-    promised-both (call s) (node s) delivered (output s) (short-output _ _ _ _ _ (c .if1 .taken)) refl refl
+    promised-both (call s) (node s) asDelivered (output s) (short-output _ _ _ _ _ (c .if1 .taken)) refl refl
 
 returns-2 : tie.Need-returns-2 Inv-loop μ-loop
 returns-2 c =
     let b = c .before in
     let s = b .before .before .before .before in
     let bad = sym (b .bad-frame .ensures) ∙ c .if2 .taken in
-    promised-both (call s) (node s) delivered (output s) (bad-frame _ _ _ _ _ (b .before .if1 .left) bad) refl refl
+    promised-both (call s) (node s) asDelivered (output s) (bad-frame _ _ _ _ _ (b .before .if1 .left) bad) refl refl
 
 -- ── a frame ──
 -- the call, seen from past the second test; `start-3` and `start-4` from further on
@@ -112,7 +112,7 @@ returns-3 c =
     let b = f .before .before .before .before in
     let s = start-3 f in
     let none : length (node s .slots) ≤ f .before .loop .i = omega (arith, long s) in
-    promised-both (call s) (node s) delivered (output s) (no-slot _ _ _ _ _ (room b) (good b) _ (found f) none) refl refl
+    promised-both (call s) (node s) asDelivered (output s) (no-slot _ _ _ _ _ (room b) (good b) _ (found f) none) refl refl
 
 -- ── the slot of its stream ──
 module _ (c : tie.Else4 Inv-loop μ-loop) where
@@ -132,7 +132,7 @@ returns-4 c =
     let b = o .before .before .before .before .before in
     let s = start-4 o in
     let sends = sym (r .is-receiver .ensures) ∙ not-true _ (c .if5 .taken) in
-    promised-both (call s) (node s) delivered (output s) (not-mine _ _ _ _ _ (room b) (good b) _ (found (o .before)) noSlot (inside o) sends) refl refl
+    promised-both (call s) (node s) asDelivered (output s) (not-mine _ _ _ _ _ (room b) (good b) _ (found (o .before)) noSlot (inside o) sends) refl refl
 
 -- where the slot was found, seen from past the fourth test; `place-5` from past the fifth
 abbrev place-4 : tie.Else5 Inv-loop μ-loop → tie.Else4 Inv-loop μ-loop
@@ -148,7 +148,7 @@ returns-5 c =
     let b = o .before .before .before .before .before in
     let s = start-4 o in
     let other = sym (rw (splits (o .before .before .before .before)) at (k .carries .ensures)) ∙ not-true _ (c .if6 .taken) in
-    promised-both (call s) (node s) delivered (output s)
+    promised-both (call s) (node s) asDelivered (output s)
     (misfit _ _ _ _ _ (room b) (good b) _ (found (o .before)) noSlot (inside o) (mine (k .before)) other)
     refl refl
 
@@ -166,7 +166,7 @@ returns-6 c =
     let b = o .before .before .before .before .before in
     let s = start-4 o in
     let other = sym (rw (splits (o .before .before .before .before)) at (l .clashes .ensures)) ∙ c .if7 .taken in
-    promised-both (call s) (node s) delivered (output s)
+    promised-both (call s) (node s) asDelivered (output s)
     (clash _ _ _ _ _ (room b) (good b) _ (found (o .before)) noSlot (inside o) (mine (k .before)) (fits (l .before)) other)
     refl refl
 
@@ -193,7 +193,7 @@ returns-7 c =
     let same = sym (rw p at (l .clashes .ensures)) ∙ h .before .if7 .left in
     let changed = rw p at (h .hear .ensures) in
     let written = rw p at (w .deliver-plain .ensures) in
-    promised-both (call s) (node s) delivered (output s)
+    promised-both (call s) (node s) asDelivered (output s)
     (heard _ _ _ _ _ (room b) (good b) _ (found (o .before)) noSlot (inside o) (mine (k .before)) (fits (l .before)) same changed)
     (rw (written .0))
     (written .1)
