@@ -1,0 +1,7 @@
+-- What is shown of the definitions of heard.
+pub mod Numbers
+pub mod Storing
+pub mod Ways
+pub mod Replies
+pub mod Unique
+pub mod WorkedRecords
