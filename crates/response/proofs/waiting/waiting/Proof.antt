@@ -17,8 +17,8 @@ least-solution-requires c κs =
 returns : tie.Need-returns
 unfolding waiting
 returns c =
-    let claims = c .before .before .before .before .before .before .before .before .before .claims-of in
-    c .least-solution .ensures ∙ (rw (c .before .timely .ensures, c .before .before .blocking .ensures, same-equation (claims .ensures)))
+    let same = same-equation (c .before .before .before .before .before .before .before .before .before .claims-of .ensures) in
+    c .least-solution .ensures ∙ (rw (c .before .timely .ensures, c .before .before .blocking .ensures, same))
 
 pub waiting-spec : {M : Type 1} → statement M
 waiting-spec =
