@@ -66,7 +66,8 @@ loop-again-2 c =
           (sym (c .before .any .ensures) ∙ c .if2 .left),
     )
 
-is-lowest : (c : tie.After-loop Inv-loop μ-loop Inv-loop2 μ-loop2) → c .before .loop .low ≡ lowestOrAbove (pendingIds (c .before .before .before .before .args .t1 .slots))
+is-lowest : (c : tie.After-loop Inv-loop μ-loop Inv-loop2 μ-loop2)
+    → c .before .loop .low ≡ lowestOrAbove (pendingIds (c .before .before .before .before .args .t1 .slots))
 is-lowest c =
     let front : c .before .loop .k ≡ 0 = omega arith in
     rw (c .before .loop .inv .1, front)

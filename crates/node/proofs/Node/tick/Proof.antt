@@ -56,7 +56,8 @@ loop-again c =
     let a = c .before .before .before .before .before .before .before .before .before in
     let stirs = sym (c .before .before .before .before .before .stirs .ensures) ∙ c .before .before .before .before .if3 .taken in
     let least = sym (c .before .is-before .ensures) ∙ c .if5 .taken in
-    looked-at-least rolled _ (a .before .before .before .loop .inv) _ _ (omega arith) _ (a .age .ensures) stirs _ (c .before .before .before .key .ensures) least
+    looked-at-least rolled _ (a .before .before .before .loop .inv) _ _ (omega arith) _ (a .age .ensures) stirs _ (c .before .before .before .key .ensures)
+    least
 
 loop-again-2 : tie.Need-loop-again-2 Inv-loop μ-loop Inv-loop2 μ-loop2 Inv-loop3 μ-loop3
 loop-again-2 c =
