@@ -20,8 +20,7 @@ use Rattle.node.specs.Calls.{after, afterFrom}
 use Rattle.node.specs.Clock.{unbounded}
 use Rattle.node.specs.Nodes.{slotOf, hasSlot, fresh, refused, Outcome, done, withSlots}
 use Rattle.node.specs.Reachable.{Kept}
-use Rattle.node.specs.SetUp.{slotFor}
-use Rattle.node.specs.Slots.{isReceiver, isSender, isFree, isOf, empty, first, onFirst, some}
+use Rattle.node.specs.Slots.{slotFor, isReceiver, isSender, isFree, isOf, empty, first, onFirst, some}
 use Rattle.node.proofs.Choices.{neither}
 use Rattle.node.proofs.kept.EveryCall.{kept}
 use Rattle.one_stream.proofs.Truth.{cond-elim, and-l, and-r, both, or-l, or-r, decide, is-true, is-false, so}
