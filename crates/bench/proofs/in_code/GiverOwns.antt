@@ -65,7 +65,9 @@ Sends plan z i = T (isSender (slotAt z i (start plan)))
 module _ (plan : Plan) (ok : T (proper plan)) (z : Stream) where
   sends-by : (i : ℕ) → Sends plan z i → SendEntry z (nth [] i plan)
   unfolding start
-  sends-by i = send-entry z (nth [] i plan) (subst (λ (n : Node). FromPlan z (nth [] i plan) (slotOf z n)) (sym (node-at plan i)) (from-plan z (nth [] i plan)))
+  sends-by i =
+      send-entry z (nth [] i plan)
+      (subst (λ (n : Node). FromPlan z (nth [] i plan) (slotOf z n)) (sym (node-at plan i)) (from-plan z (nth [] i plan)))
 
   never-later : (i j : ℕ) → i < j → Sends plan z i → Sends plan z j → ⊥
   never-later i j h s t =

@@ -20,7 +20,8 @@ use Rattle.bench.specs.Events.{Event, asks, dies, step, dead, withNode, 
 use Rattle.bench.specs.Lists.{nth}
 use Rattle.bench.specs.SetUp.{isDone}
 use Rattle.bench.proofs.laws.SlotAfterCall.{slot-kept, asking, accepts, ask-own, ask-reply, ask-counter}
-use Rattle.bench.proofs.laws.ModuleAfterEvent.{accepted-facts, module-step, dead-live, dead-node, Elsewhere, untouched-step, countOf, asFunction, count-is}
+use Rattle.bench.proofs.laws.ModuleAfterEvent.{accepted-facts, module-step, dead-live, dead-node, Elsewhere, untouched-step, countOf, asFunction}
+use Rattle.bench.proofs.laws.ModuleAfterEvent.{count-is}
 use Rattle.bench.proofs.message.SendingsSeen.{toSent}
 use Rattle.bench.proofs.message.ClassOnBench.{ClassOnBench}
 use Rattle.bench.proofs.message.ModuleSeen.{notes, viewOf, view, Looks, looks, view-looks}

@@ -283,8 +283,8 @@ module _ {n : ℕ} {D : OS.Delays} (K : ClassOnBench n D) (s : Stream) (me : ℕ
       heard-receiver : (T (eqb (codeOf (f .id)) 3) → ⊥) → (T (isReceiver x) → T (eqb i (ownerOf w k)) → ⊥) → {h : K .C .Slot} {caused : Bool}
           → (T (isReceiver x) → Becomes (K .C) (K .held) x h caused (slotOf s (hearsFrame f m .node)))
           → (T (isLive i b) → T (isReceiver x) → T (named to i) → op (view K s carried m row)
-          ≡ seen K (m .live) (K .held x) (x .pending .abort) (map (toFrame carried) row) (notes s (m .log)) (asFunction (now (sentTo w))) carried (isReceiver x)
-          h caused (notes s (m .log)))
+          ≡ seen K (m .live) (K .held x) (x .pending .abort) (map (toFrame carried) row) (notes s (m .log)) (asFunction (now (sentTo w))) carried
+          (isReceiver x) h caused (notes s (m .log)))
           → cond ((isLive i b && isReceiver x) && named to i) (op (view K s carried m row)) (view K s carried m row)
           ≡ entered b (sentTo w) i row (cond (hearsIt w i) (hearsFrame f m) m)
       heard-receiver not-plain not-own becomes seen-so =
@@ -298,7 +298,8 @@ module _ {n : ℕ} {D : OS.Delays} (K : ClassOnBench n D) (s : Stream) (me : ℕ
           ∙ (sym (view-becomes K s carried (now (sentTo w)) m (hearsFrame f m) row refl (hear-kind s (f .id) (f .payload) (m .node)) (becomes r)
           (heard-log s f m not-plain))
           ∙ ap after (sym (is-true (hearsIt w i)
-          (both (isLive i b && named to i) (not (eqb i (ownerOf w k))) (both (isLive i b) (named to i) live name) (not-T (eqb i (ownerOf w k)) (not-own r)))))))
+          (both (isLive i b && named to i) (not (eqb i (ownerOf w k))) (both (isLive i b) (named to i) live name)
+          (not-T (eqb i (ownerOf w k)) (not-own r)))))))
           (λ t. stays (hearsIt w i) (λ g. is-false (isReceiver x) (λ r.
           let named-live = and-l (isLive i b && named to i) (not (eqb i (ownerOf w k))) g in
           T-not ((isLive i b && isReceiver x) && named to i) t

@@ -18,7 +18,8 @@ toSent (sent a b f) = OS.sent (asFunction a) (asFunction b) f
 
 -- ── what the books say of a frame ──
 -- what does not hold of a frame that was never sent, and else is told by whether the last sending was full
-told-by-last : (Holds : OS.Sent → Type 0) (tells : Bool → Bool) → Holds OS.never ≡ ⊥ → ((x y : ℕ → ℕ) (full : Bool) → Holds (OS.sent x y full) ≡ T (tells full))
+told-by-last : (Holds : OS.Sent → Type 0) (tells : Bool → Bool) → Holds OS.never ≡ ⊥
+    → ((x y : OS.Moment) (full : Bool) → Holds (OS.sent x y full) ≡ T (tells full))
     → (d : Sendings) → Holds (toSent d) ≡ T (elim d [ never ↦ false | sent x y full ↦ tells full ])
 unfolding toSent
 told-by-last Holds tells none some never = none
