@@ -108,7 +108,7 @@ impl Bench {
     pub fn request(mut self, who: usize, stream: Stream, payload: &[u8]) -> Asked
         ensures { λ r. ⌜ r ≡ asked (isLiveIn who self) (request stream (now (payload .entry))) who self ⌝ }
     {
-        if who >= Bench::PLACES {
+        if !self.is_live(who) {
             return Asked {
                 bench: self,
                 there: false,
@@ -116,13 +116,6 @@ impl Bench {
             };
         }
         let m = self.modules[who];
-        if !m.live {
-            return Asked {
-                bench: self,
-                there: false,
-                reply: Reply::Done,
-            };
-        }
         let node = m.node;
         let answer = node.request(stream, payload);
         let reply = answer.reply;
@@ -138,7 +131,7 @@ impl Bench {
     pub fn give(mut self, who: usize, frames: Frames) -> Gave
         ensures { λ r. ⌜ r ≡ givingOf who frames self ⌝ }
     {
-        if who >= Bench::PLACES {
+        if !self.is_live(who) {
             return Gave {
                 bench: self,
                 frames: frames,
@@ -147,14 +140,6 @@ impl Bench {
             };
         }
         let m = self.modules[who];
-        if !m.live {
-            return Gave {
-                bench: self,
-                frames: frames,
-                giving: Giving::Dead,
-                frame: Frame::NONE,
-            };
-        }
         let mut bytes = [0u8; Frame::ROOM];
         let node = m.node;
         let answer = node.next_frame(&mut bytes);
