@@ -17,7 +17,9 @@ eight : (c : tie.Start) → length (c .args .t1 .modules) ≡ 8
 eight c = search (needs, length-of-mapped)
 
 returns : tie.Need-returns
-returns c = let s = c .before .before in dead-gives-nothing (s .args .t1) (eight s) _ _ (sym (c .before .is-live .ensures) ∙ not-true _ (c .if1 .taken))
+returns c =
+    let s = c .before .before .before in
+    c .none .ensures ∙ dead-gives-nothing (s .args .t1) (eight s) _ _ (sym (c .before .before .is-live .ensures) ∙ not-true _ (c .before .if1 .taken))
 
 -- else the module is live, and so at one of them
 live : (c : tie.Else1) → (let s = c .before .before in isLiveIn (s .args .who) (s .args .t1) ≡ true)
@@ -28,19 +30,21 @@ inside c = let s = c .before .before in live-inside (s .args .t1) (eight s) _ (l
 
 returns-2 : tie.Need-returns-2
 returns-2 c =
-    let a = c .before .before .before .next-frame .ensures .0 in
-    let l = c .before .before .before .before .before .before .before in
-    let s = l .before .before in
-    nothing-to-give (s .args .t1) (eight s) _ _ (live l) (inside l) _ _ (a .0) (ne-eqb _ 0 (λ e. c .if2 .taken (c .before .number .ensures ∙ e)))
-
-returns-3 : tie.Need-returns-3
-returns-3 c =
-    let n = c .before .before .before in
+    let n = c .before .before in
     let a = n .before .before .next-frame .ensures .0 in
     let l = n .before .before .before .before .before .before in
     let s = l .before .before in
-    let done = eq-eqb _ 0 (sym (n .number .ensures) ∙ c .before .before .if2 .left) in
-    no-room (s .args .t1) (eight s) _ _ (live l) (inside l) _ _ (a .0) done (omega arith)
+    let refused = ne-eqb _ 0 (λ e. c .before .if2 .taken (n .number .ensures ∙ e)) in
+    c .none2 .ensures ∙ nothing-to-give (s .args .t1) (eight s) _ _ (live l) (inside l) _ _ (a .0) refused
+
+returns-3 : tie.Need-returns-3
+returns-3 c =
+    let n = c .before .before .before .before in
+    let a = n .before .before .next-frame .ensures .0 in
+    let l = n .before .before .before .before .before .before in
+    let s = l .before .before in
+    let done = eq-eqb _ 0 (sym (n .number .ensures) ∙ c .before .before .before .if2 .left) in
+    c .none3 .ensures ∙ no-room (s .args .t1) (eight s) _ _ (live l) (inside l) _ _ (a .0) done (omega arith)
 
 returns-4 : tie.Need-returns-4
 returns-4 c =
@@ -57,6 +61,6 @@ at-the-store c = inside (c .before .before .before .before .before .before .befo
 pub give-spec : {M : Type 1} → statement M
 give-spec =
     tie.close
-    (tie.spec (λ c κs. search needs) returns (λ c. omega (arith, inside c)) inside (λ c. search needs) (λ c κs. search needs)
-    (λ c κs. search needs) returns-2 returns-3 (λ c κs. search needs) (λ c. omega (arith, at-the-store c)) at-the-store
+    (tie.spec (λ c κs. search needs) (λ c κs. search needs) returns (λ c. omega (arith, inside c)) inside (λ c. search needs) (λ c κs. search needs)
+    (λ c κs. search needs) (λ c κs. search needs) returns-2 (λ c κs. search needs) returns-3 (λ c κs. search needs) (λ c. omega (arith, at-the-store c)) at-the-store
     (λ c κs. search needs) returns-4)

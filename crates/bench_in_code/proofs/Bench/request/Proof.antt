@@ -19,7 +19,7 @@ eight : (c : tie.Start) → length (c .args .t1 .modules) ≡ 8
 eight c = search (needs, length-of-mapped)
 
 returns : tie.Need-returns
-returns c = nobody-answers _ (sym (c .before .is-live .ensures) ∙ not-true _ (c .if1 .taken)) _ _ _
+returns c = c .nobody .ensures ∙ nobody-answers _ (sym (c .before .before .is-live .ensures) ∙ not-true _ (c .before .if1 .taken)) _ _ _
 
 -- else the module is live, and so at one of them
 live : (c : tie.Else1) → (let s = c .before .before .before in isLiveIn (s .args .who) (s .args .t1) ≡ true)
@@ -41,5 +41,5 @@ at-the-store c = inside (c .before .before .before .before)
 pub request-spec : {M : Type 1} → statement M
 request-spec =
     tie.close
-    (tie.spec (λ c κs. search needs) returns (λ c. omega (arith, inside c)) inside (λ c κs. search needs) (λ c κs. search needs)
+    (tie.spec (λ c κs. search needs) (λ c κs. search needs) returns (λ c. omega (arith, inside c)) inside (λ c κs. search needs) (λ c κs. search needs)
     (λ c. omega (arith, at-the-store c)) at-the-store returns-2)
