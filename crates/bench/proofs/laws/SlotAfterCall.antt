@@ -26,7 +26,7 @@ use Rattle.node.specs.Nodes.{slotOf, onSlot, Outcome}
 use Rattle.node.specs.Reachable.{KeptSlot, All, Distinct, Kept}
 use Rattle.node.specs.Request.{requested}
 use Rattle.node.specs.Slots.{empty, payloadOf, isReceiver, isOf, first, onFirst, some}
-use Rattle.node.specs.Tick.{due, tickSlot, dueSlots, ticked}
+use Rattle.node.specs.Tick.{late, due, tickSlot, dueSlots, ticked}
 use Rattle.node.proofs.Choices.{either-way, contrary, refuted}
 use Rattle.node.proofs.Cases.{by-case}
 use Rattle.node.proofs.hear.Cases.{HearFacts, takes-says, takes-back, hear-cases}
@@ -37,7 +37,7 @@ use Rattle.node.proofs.request.Cases as node-request
 use Rattle.node.proofs.next_frame.Cases.{next-cases}
 use Rattle.node.proofs.tick.Ascending.{Before, Ascends, due-ascend, only-due, due-of-stream}
 use Rattle.node.proofs.kept.EachSlot.{kept-empty}
-use Rattle.node.proofs.tick.Tests.{Due, due-tells}
+use Rattle.node.proofs.tick.Tests.{Due, late-tells, due-tells}
 use Rattle.node.proofs.next_frame.Lowest.{lowest-is-one}
 use Rattle.node.proofs.slots.Streams.{Kind, KeepsKind, heard-keeps, requested-keeps, given-out-keeps, slot-of-changed, slot-of-ticked}
 use Rattle.node.proofs.slots.Table.{all-weaken, all-first}
@@ -170,6 +170,16 @@ ticks n = ap (λ (o : Outcome). o .node) (tick-cases lent unbounded n .accepted-
 
 pub tick-slot : (s : Stream) (n : Node) → slotOf s (ticking n .node) ≡ tickSlot unbounded (n .counter + 1) (slotOf s n)
 tick-slot s n = ap (slotOf s) (ticks n) ∙ slot-of-ticked unbounded s n
+
+-- a slot that does not receive is neither late nor due
+pub not-late-nor-due : (age : ℕ) (x : Slot) → isReceiver x ≡ false → (late age x ≡ false) × (due age x ≡ false)
+not-late-nor-due age x deaf = (
+  refuted (late age x) (λ t. let k = late-tells age x .says t in contrary (receiver (k .used) (k .receiver)) deaf),
+  refuted (due age x) (λ t. let k = due-tells age x .says t in contrary (receiver (k .used) (k .receiver)) deaf),
+)
+  where
+    receiver : x .used ≡ true → receives (x .settings) ≡ true → isReceiver x ≡ true
+    receiver u r = rw (u, r)
 
 -- ── a request ──
 abbrev pub asking : Stream → List ℕ → Node → Outcome

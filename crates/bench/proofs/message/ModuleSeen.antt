@@ -21,13 +21,13 @@ use Rattle.node.specs.NextFrame.{payloadFor}
 use Rattle.node.specs.Nodes.{slotOf}
 use Rattle.node.specs.Reachable.{Kept}
 use Rattle.node.specs.Slots.{isReceiver}
-use Rattle.node.specs.Tick.{late, due, holdOver, lapsed, tickSlot}
+use Rattle.node.specs.Tick.{holdOver, lapsed, tickSlot}
 use Rattle.node.proofs.slots.Streams.{Kind, kindOf}
 use Rattle.one_stream.proofs.Truth.{is-true, is-false, so, not-so}
 use Rattle.bench.specs.Bench.{Module, Frame, Delivery}
 use Rattle.bench.specs.Events.{onto, deliveries}
 use Rattle.bench.proofs.laws.SlotAfterCall.{same-stream, slot-kept, takes, taken-unless-clash, hearing, hear-own, ticking}
-use Rattle.bench.proofs.laws.SlotAfterCall.{tick-slot, onStream, deliveryOf, tick-delivers}
+use Rattle.bench.proofs.laws.SlotAfterCall.{tick-slot, not-late-nor-due, onStream, deliveryOf, tick-delivers}
 use Rattle.bench.proofs.laws.ModuleAfterEvent.{asFunction}
 use Rattle.bench.proofs.message.SendingsSeen.{toSent}
 use Rattle.bench.proofs.message.ClassOnBench.{OfClass, Receiving, newly, Becomes, ClassOnBench}
@@ -206,10 +206,6 @@ module _ {n : ℕ} {D : OS.Delays} (K : ClassOnBench n D) (s : Stream) (node : N
       subst (Becomes (K .C) (K .held) x (K .C .onTick t (K .held x)) (K .C .late t (K .held x))) (sym (tick-slot s node))
       (K .onTick (node .counter) x (receiving r))
 
-  not-late-due : isReceiver x ≡ false → (age : ℕ) → (late age x ≡ false) × (due age x ≡ false)
-  unfolding late due
-  not-late-due e age = (rw e refl, rw e refl)
-
   -- where the stream is not received a hold may end, and no more
   pub ticked-other : isReceiver x ≡ false → Looks K (isReceiver x) (K .held x) (x .pending .abort) (slotOf s (ticking node .node))
   unfolding lapsed
@@ -218,10 +214,10 @@ module _ {n : ℕ} {D : OS.Delays} (K : ClassOnBench n D) (s : Stream) (node : N
       go : (o : Bool) → holdOver (t - x .message .stamp) x ≡ o
           → Looks K (isReceiver x) (K .held x) (x .pending .abort) (tickSlot unbounded t x)
       go true eh =
-          let z = not-late-due e (t - x .message .stamp) in
+          let z = not-late-nor-due (t - x .message .stamp) x e in
           record { receiver = rw (z .0, z .1, eh) refl; held = λ y. absurd (not-so e y); pending = rw (z .0, z .1, eh) refl }
       go false eh =
-          let z = not-late-due e (t - x .message .stamp) in
+          let z = not-late-nor-due (t - x .message .stamp) x e in
           record { receiver = rw (z .0, z .1, eh) refl; held = λ y. absurd (not-so e y); pending = rw (z .0, z .1, eh) refl }
 
   pub ticked-log : T (isReceiver x) → (log : List Delivery)
@@ -241,4 +237,4 @@ module _ {n : ℕ} {D : OS.Delays} (K : ClassOnBench n D) (s : Stream) (node : N
   pub ticked-log-other : isReceiver x ≡ false → (log : List Delivery) → notes s (onto (deliveries unbounded node) log) ≡ notes s log
   ticked-log-other e log =
       ap (map toNote) (tick-delivers s node k log)
-      ∙ ap (λ d. map toNote (cond d (deliveryOf t x ∷ onStream s log) (onStream s log))) (not-late-due e (t - x .message .stamp) .1)
+      ∙ ap (λ d. map toNote (cond d (deliveryOf t x ∷ onStream s log) (onStream s log))) (not-late-nor-due (t - x .message .stamp) x e .1)
