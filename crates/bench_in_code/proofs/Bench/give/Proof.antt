@@ -62,5 +62,5 @@ pub give-spec : {M : Type 1} → statement M
 give-spec =
     tie.close
     (tie.spec (λ c κs. search needs) (λ c κs. search needs) returns (λ c. omega (arith, inside c)) inside (λ c. search needs) (λ c κs. search needs)
-    (λ c κs. search needs) (λ c κs. search needs) returns-2 (λ c κs. search needs) returns-3 (λ c κs. search needs) (λ c. omega (arith, at-the-store c)) at-the-store
-    (λ c κs. search needs) returns-4)
+    (λ c κs. search needs) (λ c κs. search needs) returns-2 (λ c κs. search needs) returns-3 (λ c κs. search needs)
+    (λ c. omega (arith, at-the-store c)) at-the-store (λ c κs. search needs) returns-4)
