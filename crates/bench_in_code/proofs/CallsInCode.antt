@@ -6,7 +6,6 @@ use Prim.Native.Nat.{ℕ, _≤_, _<_}
 use native.Mathlib.Omega.{arith}
 use lib.ListN.{length, getD, set, replicate, take, drop, take-append-drop}
 use lib.Seq.{take-append-seam}
-use lib.Dec.{T}
 use borrow.Author.Tests.{le-leb, lt-leb}
 use Rattle.wire.specs.Frames.{maxPayload}
 use Rattle.wire.specs.Delivered.{over}
@@ -21,21 +20,14 @@ use Rattle.bench_in_code.specs.declared.outbox.Frame.{Frame}
 use Rattle.bench_in_code.specs.declared.outbox.Frames.{Frames}
 use Rattle.bench_in_code.specs.declared.Bench.{Bench}
 use Rattle.bench_in_code.specs.declared.Giving.the-variants.{Dead, Nothing, Full, Out}
-use Rattle.one_stream.proofs.Truth.{so}
 use Rattle.bench.specs.SetUp.{isDone}
 use Rattle.bench.specs.Bench as history
 use Rattle.bench.specs.Events.{lent, withNode}
 use Rattle.bench_in_code.specs.InCode.{nobody, shown, kept, silence, answeredTurn, tickTurn, hearTurn, payloadOf, moduleIn, isLiveIn, callIn, onModule}
 use Rattle.bench_in_code.specs.InCode.{notAsked, asked, next, givingOf, withFrame, notGiven, capacity}
-use Rattle.bench.proofs.laws.ListPlaces.{nth-inside, nth-there, nth-past, at-inside, at-past}
+use Rattle.bench.proofs.laws.ListPlaces.{nth-inside, nth-past, at-inside, at-past}
 
 -- ── one module of the bench ──
--- who is live is at one of its places
-pub live-inside : (b : Bench) → length (b .modules) ≡ 8 → (who : ℕ) → isLiveIn who b ≡ true → who < 8
-live-inside b eight who live =
-    let there = nth-there nobody (λ (m : Station). T (m .live)) (λ t. t) who (b .modules) (so live) in
-    omega (arith, eight)
-
 module _ (b : Bench) (eight : length (b .modules) ≡ 8) (who : ℕ) where
   module _ (past : 8 ≤ who) where
     pub past-is-dead : false ≡ isLiveIn who b

@@ -132,10 +132,13 @@ impl Bench {
     pub fn request(mut self, who: usize, stream: Stream, payload: &[u8]) -> Asked
         ensures { λ r. ⌜ r ≡ asked (isLiveIn who self) (request stream (now (payload .entry))) who self ⌝ }
     {
-        if !self.is_live(who) {
+        if who >= Bench::PLACES {
             return Asked::nobody(self);
         }
         let m = self.modules[who];
+        if !m.live {
+            return Asked::nobody(self);
+        }
         let node = m.node;
         let answer = node.request(stream, payload);
         let reply = answer.reply;
@@ -151,10 +154,13 @@ impl Bench {
     pub fn give(mut self, who: usize, frames: Frames) -> Gave
         ensures { λ r. ⌜ r ≡ givingOf who frames self ⌝ }
     {
-        if !self.is_live(who) {
+        if who >= Bench::PLACES {
             return Gave::none(self, frames, Giving::Dead);
         }
         let m = self.modules[who];
+        if !m.live {
+            return Gave::none(self, frames, Giving::Dead);
+        }
         let mut bytes = [0u8; Frame::ROOM];
         let node = m.node;
         let answer = node.next_frame(&mut bytes);
