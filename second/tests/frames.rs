@@ -17,8 +17,7 @@ fn receiver(fault: Fault) -> Node {
     let mut node = Node::with(fault);
     let five =
         Asked { stream: 5, role: 0, class: 2, data_reach: 2, confirm_delay: 3, abort_reach: 2, deliver_delay: 6 };
-    let six =
-        Asked { stream: 6, role: 0, class: 0, data_reach: 0, confirm_delay: 0, abort_reach: 0, deliver_delay: 0 };
+    let six = Asked { stream: 6, role: 0, class: 0, data_reach: 0, confirm_delay: 0, abort_reach: 0, deliver_delay: 0 };
     assert_eq!([node.set_up(five), node.set_up(six)], [Reply::Done; 2]);
     node
 }
