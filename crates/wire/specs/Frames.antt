@@ -11,10 +11,11 @@ use Rattle.wire.specs.Identifiers.{maxBusId, codeOf}
 abbrev pub maxPayload : ℕ
 maxPayload = 8
 
--- the highest DLC, and how many bytes a DLC means: from 9 on eight
+-- the highest DLC
 abbrev pub maxDlc : ℕ
 maxDlc = 15
 
+-- how many bytes a DLC means: as many as it says, and from 9 on eight
 abbrev pub bytesOfDlc : (dlc : ℕ) → ℕ
 bytesOfDlc dlc = min dlc maxPayload
 

@@ -4,8 +4,8 @@ ghost use mathlib.Core.Path.{_≡_};
 ghost use lib.ListN.{length};
 ghost use Rattle.wire.specs.Frames.{bytesOfDlc, badFrame};
 
-// How many bytes a DLC means: from 9 on eight.
-pub fn bytes_of_dlc(dlc: u8) -> usize
+// How many bytes a DLC means: as many as it says, and from 9 on eight.
+fn bytes_of_dlc(dlc: u8) -> usize
     ensures { λ r. ⌜ r ≡ bytesOfDlc dlc ⌝ }
 {
     if dlc <= 8 { dlc as usize } else { 8 }

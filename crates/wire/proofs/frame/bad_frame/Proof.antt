@@ -1,4 +1,4 @@
--- `bad_frame` meets its contract: the code is the definition, test by test.
+-- `bad_frame` meets its contract: the code is the definition, test by test, with the bytes that `bytes_of_dlc` answers.
 use Rattle.wire.specs.Frames.{badFrame}
 use Rattle.wire.proofs.frame.bad_frame.Statement.{statement}
 use Rattle.wire.proofs.frame.bad_frame.Tie as tie
