@@ -69,8 +69,8 @@ wrongs! {
     NodeStays, "node-stays", "a replay begins with the node that the one before left";
     // The writer.
     ShortFirst, "short-first", "11 before 17";
-    NineBytes, "nine-bytes", "a payload of 9 bytes is written";
-    SevenBytes, "seven-bytes", "a payload of 8 bytes is refused";
+    NineBytes, "writes-9-bytes", "a payload of 9 bytes is written";
+    SevenBytes, "refuses-8-bytes", "a payload of 8 bytes is refused";
     RoomForMore, "room-for-more", "an output as long as the record is too short";
     RefusalWrites, "refusal-writes", "a refusal writes what there is room for";
     PastRecord, "past-record", "the bytes past the record are overwritten";
