@@ -8,3 +8,4 @@ pub mod Records
 pub mod Replies
 pub mod Unique
 pub mod Variants
+pub mod WorkedFrames
