@@ -174,6 +174,8 @@ const OF_THE_NODE: &[Fault] = &[
     Fault::ClashByLength,
     Fault::ClashByBytes,
     Fault::ClashReplaces,
+    Fault::HeldLengthIsDlc,
+    Fault::DlcAboveEight,
     Fault::TakenFirst,
     Fault::FullFirst,
     Fault::Limit(Limit::Slots, Off::Lower),
@@ -183,6 +185,8 @@ const OF_THE_NODE: &[Fault] = &[
     Fault::Limit(Limit::ClassMost, Off::Higher),
     Fault::Limit(Limit::RoleMost, Off::Higher),
     Fault::Limit(Limit::DlcMost, Off::Lower),
+    Fault::Limit(Limit::DlcMost, Off::Higher),
+    Fault::Limit(Limit::DlcBytes, Off::Lower),
 ];
 
 /// Scripts and the answers due to them.
