@@ -39,7 +39,7 @@ pub fn read(line: &[u8]) -> Result<Logged<'_>, String> {
         return Err("it ends in a carriage return".to_string());
     }
     let words: Vec<&[u8]> = line.split(|byte| *byte == b' ').filter(|word| !word.is_empty()).collect();
-    // With its option -x candump says whether a frame was received or sent.
+    // A last word says whether the frame was received or sent.
     let (time, interface, frame) = match words.as_slice() {
         [time, interface, frame] | [time, interface, frame, b"R" | b"T"] => (time, interface, frame),
         _ => return Err("it is not `(SECONDS) INTERFACE IDENTIFIER#DATA`".to_string()),
@@ -52,16 +52,20 @@ fn digits(word: &[u8]) -> Option<u64> {
     std::str::from_utf8(word).ok().filter(|_| all)?.parse().ok()
 }
 
-/// The microseconds of `(SECONDS.MICROSECONDS)`.
+/// The microseconds of `(SECONDS.MICROSECONDS)`; of nanoseconds the last three digits are dropped.
 fn read_time(word: &[u8]) -> Result<u64, String> {
     let read = || {
         let inner = word.strip_prefix(b"(")?.strip_suffix(b")")?;
         let point = inner.iter().position(|byte| *byte == b'.')?;
         let (seconds, rest) = (&inner[..point], &inner[point + 1..]);
-        let rest = digits(rest).filter(|_| rest.len() == 6)?;
+        let rest = match rest.len() {
+            6 => digits(rest)?,
+            9 => digits(rest)? / 1_000,
+            _ => return None,
+        };
         digits(seconds)?.checked_mul(1_000_000)?.checked_add(rest)
     };
-    read().ok_or("its time is not `(SECONDS.MICROSECONDS)`, with six digits after the point".to_string())
+    read().ok_or("its time is not `(SECONDS.MICROSECONDS)`, with six or nine digits after the point".to_string())
 }
 
 fn read_frame(word: &[u8]) -> Result<Heard, String> {
@@ -227,6 +231,7 @@ mod tests {
         let time = |text: &str| read(format!("{text} can0 00000014#").as_bytes()).map(|logged| logged.microseconds);
         assert_eq!(time("(1436509052.249713)"), Ok(1_436_509_052_249_713));
         assert_eq!(time("(000.000001)"), Ok(1));
+        assert_eq!(time("(1436509052.249713999)"), Ok(1_436_509_052_249_713));
         assert_eq!(time("(18446744073709.551615)"), Ok(u64::MAX));
         for text in ["(18446744073709.551616)", "(1.5)", "(1)", "(-1.000000)", "1.000000", "(.000000)", "(1.0000000)"] {
             assert!(time(text).is_err_and(|why| why.contains("its time")), "{text}");

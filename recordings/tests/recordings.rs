@@ -132,7 +132,7 @@ fn lines_that_can_not_be_read_are_named() {
     let log = "(0.000000) can0 00000014#00\n# note\n(0.000000) can0 0014#00\nvcan0 00000014 [2]\n(0.000000) can0 00000014##000\n";
     let due = [
         "log: line 3: its identifier is not 8 hex digits, or 3: (0.000000) can0 0014#00",
-        "log: line 4: its time is not `(SECONDS.MICROSECONDS)`, with six digits after the point: vcan0 00000014 [2]",
+        "log: line 4: its time is not `(SECONDS.MICROSECONDS)`, with six or nine digits after the point: vcan0 00000014 [2]",
         "log: line 5: its frame is one of CAN FD, and a recording holds classical frames: (0.000000) can0 00000014##000",
     ];
     assert_eq!(troubles(log), due);
