@@ -3,19 +3,15 @@
 use std::time::{Duration, Instant};
 
 use crate::calls::Calls;
-use crate::difference::{first_difference, Difference};
+use crate::difference::{first_difference, report, text};
 use crate::fault::Fault;
 use crate::program::Program;
 use crate::random::Random;
 use crate::random_calls::{script, Making};
-use crate::shrink::{leave_out, shrink};
 
 /// How many lines are put to the program at once.
 const BATCH: usize = 60_000;
 const PROGRAM_LIMIT: Duration = Duration::from_secs(240);
-const SHRINK_LIMIT: Duration = Duration::from_secs(60);
-/// How long the program may take for a script while it is being shrunk.
-const TRY_LIMIT: Duration = Duration::from_secs(10);
 
 type Script = Vec<Vec<u8>>;
 
@@ -29,15 +25,6 @@ pub struct Options {
 /// Whether a line that was answered is a call.
 pub fn is_call(line: &[u8], answer: &str) -> bool {
     answer != "?" && line != b"node" && line != b"tally"
-}
-
-pub fn text(script: &[Vec<u8>]) -> Vec<u8> {
-    let mut text = Vec::new();
-    for line in script {
-        text.extend(line);
-        text.push(b'\n');
-    }
-    text
 }
 
 struct Batch {
@@ -78,7 +65,11 @@ pub fn compare(options: &Options) -> Result<bool, String> {
         let next = Batch::make(options, &mut number);
         let answers = running.finish(PROGRAM_LIMIT);
         if let Some(at) = first_difference(due.iter(), &answers.lines) {
-            report(options, &batch.scripts[..=at]);
+            let due = |script: &[Vec<u8>]| {
+                let mut second = Calls::new(Fault::None);
+                script.iter().map(|line| Some(second.answer(line))).collect()
+            };
+            report("compare calls", &options.program, &batch.scripts[..=at], due, |line| simpler(line));
             return Ok(false);
         }
         if let Some(trouble) = answers.trouble {
@@ -101,28 +92,6 @@ pub fn compare(options: &Options) -> Result<bool, String> {
         println!("compare calls: not covered: {what}");
     }
     Ok(missing.is_empty())
-}
-
-fn difference(program: &Program, script: &[Vec<u8>]) -> Option<Difference> {
-    let given = program.answers(text(script), TRY_LIMIT).ok()?;
-    let mut second = Calls::new(Fault::None);
-    let due = script.iter().map(|line| second.answer(line)).collect();
-    Difference::between(script.to_vec(), due, given)
-}
-
-/// Prints the shortest script found that shows the difference in the last of these scripts.
-fn report(options: &Options, scripts: &[Script]) {
-    println!("compare calls: a difference in script {} of its batch", scripts.len() - 1);
-    let program = &options.program;
-    let fails = |script: &[Vec<u8>]| difference(program, script).is_some();
-    // Mostly the last script shows it alone; else something of the ones before it matters.
-    let last = scripts[scripts.len() - 1].clone();
-    let found = if fails(&last) { last } else { scripts.concat() };
-    let short = shrink(found, SHRINK_LIMIT, leave_out, |line| simpler(line), fails);
-    match difference(program, &short) {
-        None => println!("compare calls: it can't be shown again"),
-        Some(difference) => difference.print(),
-    }
 }
 
 /// Fewer ticks in a line.

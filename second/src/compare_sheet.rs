@@ -2,8 +2,7 @@
 
 use std::time::{Duration, Instant};
 
-use crate::compare_calls::text;
-use crate::difference::{first_difference, Difference};
+use crate::difference::{first_difference, text, Difference};
 use crate::program::Program;
 use crate::random::Random;
 use crate::random_sheets::random_line;

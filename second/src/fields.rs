@@ -2,7 +2,7 @@
 
 use std::fmt;
 
-use crate::words::{number, payload, words, PAYLOAD_MOST};
+use crate::words::{bytes, number, payload, words, PAYLOAD_MOST};
 
 /// The most bytes that a line may have.
 pub const LINE_MOST: usize = 65_535;
@@ -100,8 +100,17 @@ impl<'a> Fields<'a> {
     }
 
     pub fn payload(&self, at: usize) -> Result<Vec<u8>, Unread> {
+        self.hex(at, payload)
+    }
+
+    /// Bytes, as many as a line has room for.
+    pub fn bytes(&self, at: usize) -> Result<Vec<u8>, Unread> {
+        self.hex(at, bytes)
+    }
+
+    fn hex(&self, at: usize, read: impl Fn(&[u8]) -> Option<Vec<u8>>) -> Result<Vec<u8>, Unread> {
         let (name, word) = (self.name(at), self.words[at]);
-        payload(word).ok_or_else(|| Unread(format!("{name} {}", why_no_payload(word))))
+        read(word).ok_or_else(|| Unread(format!("{name} {}", why_no_bytes(word))))
     }
 }
 
@@ -135,7 +144,7 @@ fn unknown(word: &[u8], forms: &[&str]) -> Unread {
     }
 }
 
-fn why_no_payload(word: &[u8]) -> String {
+fn why_no_bytes(word: &[u8]) -> String {
     let stray = word.iter().find(|byte| !byte.is_ascii_hexdigit());
     match stray {
         Some(byte) => format!("has `{}`, which is no hex digit", byte.escape_ascii()),
@@ -240,8 +249,8 @@ mod tests {
             (b"0g", "has `g`, which is no hex digit"),
             (b"0x0a", "has `x`, which is no hex digit"),
         ] {
-            assert_eq!(why_no_payload(word), says);
+            assert_eq!(why_no_bytes(word), says);
         }
-        assert_eq!(why_no_payload("00".repeat(65).as_bytes()), "has 65 bytes, above its limit, 64");
+        assert_eq!(why_no_bytes("00".repeat(65).as_bytes()), "has 65 bytes, above its limit, 64");
     }
 }

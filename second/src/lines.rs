@@ -35,7 +35,7 @@ pub fn answer_lines(
 }
 
 /// Reads a line into `line` and says whether it was cut; `None` at the end. A last line without a newline counts.
-fn next_line(input: &mut impl BufRead, line: &mut Vec<u8>) -> io::Result<Option<bool>> {
+pub fn next_line(input: &mut impl BufRead, line: &mut Vec<u8>) -> io::Result<Option<bool>> {
     line.clear();
     let mut begun = false;
     let mut cut = false;

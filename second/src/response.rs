@@ -1,6 +1,8 @@
 //! The response-time sheet, from equations (2) to (4) and (8) to (10) of source document 001 alone: two ways to the least
 //! waiting time, of which the plain one goes through every number.
 
+use crate::wrongs::wrongs;
+
 /// One stream of a list, in whole bit times.
 #[derive(Clone, Copy, Debug, PartialEq, Eq)]
 pub struct Stream {
@@ -25,20 +27,6 @@ pub enum Verdict {
     ShortOutput,
     BadStream,
     Late(usize),
-}
-
-macro_rules! wrongs {
-    ($($name:ident, $word:literal, $says:literal;)*) => {
-        /// What is wrong with a sheet; `Nothing` in the faultless one.
-        #[derive(Clone, Copy, Debug, PartialEq, Eq)]
-        pub enum Wrong {
-            Nothing,
-            $($name,)*
-        }
-
-        /// Each with its name and what it does.
-        pub const WRONGS: &[(Wrong, &str, &str)] = &[$((Wrong::$name, $word, $says),)*];
-    };
 }
 
 wrongs! {
@@ -74,12 +62,6 @@ wrongs! {
     LongInaccessibility, "long-inaccessibility", "an inaccessibility of 10,001 is taken";
     PeriodUnread, "period-unread", "a period of 0 is taken where n is 0";
     EmptyIsFine, "empty-is-fine", "the errors are not looked at where the list is empty";
-}
-
-impl Wrong {
-    pub fn from_name(name: &str) -> Option<Wrong> {
-        WRONGS.iter().find(|named| named.1 == name).map(|named| named.0)
-    }
 }
 
 const MOST: u64 = 1_000_000;

@@ -27,15 +27,20 @@ pub fn number_u32(word: &[u8]) -> Option<u32> {
     number(word, u64::from(u32::MAX)).and_then(|value| u32::try_from(value).ok())
 }
 
-/// A payload of a line, `-` for none.
-pub fn payload(word: &[u8]) -> Option<Vec<u8>> {
+/// Bytes in lower-case hex, `-` for none.
+pub fn bytes(word: &[u8]) -> Option<Vec<u8>> {
     if word == b"-" {
         return Some(Vec::new());
     }
-    if word.is_empty() || !word.len().is_multiple_of(2) || word.len() > 2 * PAYLOAD_MOST {
+    if word.is_empty() || !word.len().is_multiple_of(2) {
         return None;
     }
     word.chunks(2).map(|pair| Some(hex_digit(pair[0])? * 16 + hex_digit(pair[1])?)).collect()
+}
+
+/// A payload of a line, `-` for none.
+pub fn payload(word: &[u8]) -> Option<Vec<u8>> {
+    bytes(word).filter(|bytes| bytes.len() <= PAYLOAD_MOST)
 }
 
 fn hex_digit(byte: u8) -> Option<u8> {
@@ -85,6 +90,7 @@ mod tests {
             assert_eq!(payload(hex(&bytes).as_bytes()), Some(bytes));
         }
         assert_eq!(payload("00".repeat(65).as_bytes()), None);
+        assert_eq!(bytes("00".repeat(65).as_bytes()), Some(vec![0; 65]));
         for bad in [&b""[..], b"0", b"0g", b"0A", b"--", b"abc"] {
             assert_eq!(payload(bad), None);
         }
