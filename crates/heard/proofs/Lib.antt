@@ -2,6 +2,7 @@
 pub mod Numbers
 pub mod Storing
 pub mod Ways
+pub mod Passed
 pub mod RoundTrip
 pub mod Replies
 pub mod Unique
