@@ -38,7 +38,8 @@ module _ (bytes : List ℕ) (at : ℕ) where
   by-tests false true true c k b e ok = absurd (false≢true (sym (ap (λ (r : HeardAt). r .ok) e) ∙ ok))
   by-tests false true false c k b e ok =
       let (head, body) = neither (ltb (length bytes - at) 4) (ltb (length bytes - at) (2 + following bytes at)) c in
-      let (low, high) = neither (ltb (following bytes at) (headLength (kindAt bytes at))) (ltb (headLength (kindAt bytes at) + maxPayload) (following bytes at)) b in
+      let least : ℕ = headLength (kindAt bytes at) in
+      let (low, high) = neither (ltb (following bytes at) least) (ltb (least + maxPayload) (following bytes at)) b in
       record { body = ltb-false _ _ body; known = ltb-true _ _ k; low = ltb-false _ _ low; high = ltb-false _ _ high; is = e }
 
   pub passed : heardAt bytes at .ok ≡ true → Passed bytes at

@@ -1,14 +1,12 @@
 -- What was written is read.
 use mathlib.Core.Path.{_≡_, refl, sym, ap, _∙_}
-use mathlib.Core.Bool.{true, false}
 use mathlib.Core.List.{List, [], _∷_, _++_, append-assoc, append-nil}
-use Prim.Native.Nat.{ℕ, zero, suc, _+_, _-_, _*_, _/_, _%_, _^_, _≤_, _<_}
-use native.Mathlib.Nat.{zero-add, pow-suc}
+use Prim.Native.Nat.{ℕ, zero, suc, _+_, _-_, _/_, _%_, _^_, _≤_, _<_}
+use native.Mathlib.Nat.{pow-suc}
 use native.Mathlib.Omega.{arith}
 use borrow.Author.Tests.{le-leb, lt-leb}
 use lib.ListN.{length, getD, take, drop, length-append}
 use lib.Seq.{take-append-seam, drop-append-add}
-use Rattle.wire.specs.Frames.{maxPayload}
 use Rattle.wire.specs.Delivered.{littleEndian, numberAt, following}
 use Rattle.wire.proofs.Reading.{behind, number-behind, number-here}
 use Rattle.heard.specs.declared.reply.Reply.the-variants.{Done}
@@ -16,11 +14,11 @@ use Rattle.heard.specs.declared.record.Heard.{Heard}
 use Rattle.heard.specs.declared.reading.HeardAt.{HeardAt}
 use Rattle.heard.specs.Kinds.{countBytes, headLength}
 use Rattle.heard.specs.Records.{recordOf}
-use Rattle.heard.specs.Reading.{found, kindAt, countEnd, headAt, heardAt}
+use Rattle.heard.specs.Reading.{found, kindAt, headAt, heardAt}
 use Rattle.heard.specs.Recordings.{Record, recordingOf, stopped, readFrom}
 use Rattle.heard.specs.RoundTrip.{Writable, AllWritable, EveryFrameWritable, RoundTrip, readWhole, RoundTripOfMany}
 use Rattle.heard.proofs.Numbers.{four-at-most}
-use Rattle.heard.proofs.Storing.{length-number, record-length}
+use Rattle.heard.proofs.Storing.{length-number, record-length, width, size, kind, count, id}
 use Rattle.heard.proofs.Ways.{whole}
 
 -- a number is read from its bytes, whatever follows them
@@ -37,21 +35,20 @@ number-there : (before rest : List ℕ) (k n at : ℕ) → at ≡ length before 
 number-there before rest k n at e small = rw e (number-here k before (littleEndian k n ++ rest) ∙ number-back k n rest small)
 
 -- ── one record ──
+pub every-frame-writable : EveryFrameWritable
+unfolding countBytes
+every-frame-writable counter id dlc payload c i short = record { known = omega arith; kind = omega arith; count = c; id = i; short = short }
+
 module _ (before rest : List ℕ) (h : Heard) (payload : List ℕ) (w : Writable (h, payload)) where
-  abbrev width : ℕ
-  width = countBytes (h .kind)
+  abbrev n : ℕ
+  n = width h payload
 
-  abbrev size : List ℕ
-  size = littleEndian 2 (headLength (h .kind) + length payload)
+  -- length and kind, and the count too
+  abbrev toKind : List ℕ
+  toKind = size h payload ++ kind h payload
 
-  abbrev kind : List ℕ
-  kind = littleEndian 2 (h .kind)
-
-  abbrev count : List ℕ
-  count = littleEndian width (h .count)
-
-  abbrev id : List ℕ
-  id = littleEndian 4 (h .id .0)
+  abbrev toCount : List ℕ
+  toCount = toKind ++ count h payload
 
   abbrev at : ℕ
   at = length before
@@ -59,10 +56,10 @@ module _ (before rest : List ℕ) (h : Heard) (payload : List ℕ) (w : Writable
   abbrev all : List ℕ
   all = before ++ (recordOf h payload ++ rest)
 
-  all-length : length all ≡ at + (9 + width + length payload) + length rest
+  all-length : length all ≡ at + (9 + n + length payload) + length rest
   all-length = omega (arith, length-append before (recordOf h payload ++ rest), length-append (recordOf h payload) rest, record-length h payload)
 
-  parted : recordOf h payload ++ rest ≡ (size ++ kind) ++ (count ++ (id ++ h .dlc ∷ (payload ++ rest)))
+  parted : recordOf h payload ++ rest ≡ toKind ++ (count h payload ++ (id h payload ++ h .dlc ∷ (payload ++ rest)))
   unfolding recordOf
   parted = simp append-assoc
 
@@ -72,40 +69,44 @@ module _ (before rest : List ℕ) (h : Heard) (payload : List ℕ) (w : Writable
   of-kind : kindAt all at ≡ h .kind
   of-kind = number-behind 2 before (recordOf h payload ++ rest) 2 ∙ rw parted (omega arith)
 
-  of-count : numberAt width all (4 + at) ≡ h .count
+  of-count : numberAt n all (4 + at) ≡ h .count
   of-count =
-      number-behind width before (recordOf h payload ++ rest) 4
-      ∙ rw parted (number-there (size ++ kind) (id ++ h .dlc ∷ (payload ++ rest)) width (h .count) 4 refl (w .count))
+      number-behind n before (recordOf h payload ++ rest) 4
+      ∙ rw parted (number-there toKind (id h payload ++ h .dlc ∷ (payload ++ rest)) n (h .count) 4 refl (w .count))
 
   -- behind the count
-  parted-there : recordOf h payload ++ rest ≡ (size ++ kind ++ count) ++ (id ++ h .dlc ∷ (payload ++ rest))
+  parted-there : recordOf h payload ++ rest ≡ toCount ++ (id h payload ++ h .dlc ∷ (payload ++ rest))
   parted-there = parted ∙ simp append-assoc
 
-  to-there : length (size ++ kind ++ count) ≡ 4 + width
-  to-there = omega (arith, length-append (size ++ kind) count, length-number width (h .count))
+  to-there : length toCount ≡ 4 + n
+  to-there = omega (arith, length-append toKind (count h payload), length-number n (h .count))
 
-  of-id : numberAt 4 all (4 + width + at) ≡ h .id .0
+  of-id : numberAt 4 all (4 + n + at) ≡ h .id .0
   of-id =
-      number-behind 4 before (recordOf h payload ++ rest) (4 + width)
-      ∙ rw parted-there (number-there (size ++ kind ++ count) (h .dlc ∷ (payload ++ rest)) 4 (h .id .0) (4 + width) (sym to-there) (w .id))
+      number-behind 4 before (recordOf h payload ++ rest) (4 + n)
+      ∙ rw parted-there (number-there toCount (h .dlc ∷ (payload ++ rest)) 4 (h .id .0) (4 + n) (sym to-there) (w .id))
 
-  of-dlc : getD all (4 + (4 + width + at)) 0 ≡ h .dlc
+  of-dlc : getD all (4 + (4 + n + at)) 0 ≡ h .dlc
   of-dlc =
-      let e : 4 + (4 + width + at) ≡ 4 + length (size ++ kind ++ count) + at = omega (arith, to-there) in
-      rw e (behind before (recordOf h payload ++ rest) (4 + length (size ++ kind ++ count))
-      ∙ rw parted-there (behind (size ++ kind ++ count) (id ++ h .dlc ∷ (payload ++ rest)) 4))
+      let e : 4 + (4 + n + at) ≡ 4 + length toCount + at = omega (arith, to-there) in
+      rw e (behind before (recordOf h payload ++ rest) (4 + length toCount)
+      ∙ rw parted-there (behind toCount (id h payload ++ h .dlc ∷ (payload ++ rest)) 4))
 
   of-head : headAt all at ≡ h
   of-head = rw (of-kind, of-count, of-id, of-dlc)
 
-  of-payload : take (length payload) (drop (5 + (4 + width + at)) all) ≡ payload
+  of-payload : take (length payload) (drop (5 + (4 + n + at)) all) ≡ payload
   of-payload =
-      let e : 5 + (4 + width + at) ≡ at + (length (size ++ kind ++ count) + 5) = omega (arith, to-there) in
-      rw (e, drop-append-add before (recordOf h payload ++ rest) (length (size ++ kind ++ count) + 5), parted-there,
-        drop-append-add (size ++ kind ++ count) (id ++ h .dlc ∷ (payload ++ rest)) 5)
+      let e : 5 + (4 + n + at) ≡ at + (length toCount + 5) = omega (arith, to-there) in
+      rw (
+        e,
+        drop-append-add before (recordOf h payload ++ rest) (length toCount + 5),
+        parted-there,
+        drop-append-add toCount (id h payload ++ h .dlc ∷ (payload ++ rest)) 5,
+      )
       (take-append-seam payload rest)
 
-  pub read-back : heardAt all at ≡ found h (5 + (4 + width + at)) (length payload)
+  pub read-back : heardAt all at ≡ found h (5 + (4 + n + at)) (length payload)
   read-back =
       let long : headLength (h .kind) + length payload - headLength (h .kind) ≡ length payload = omega arith in
       let known : 0 < countBytes (kindAt all at) = rw of-kind (w .known) in

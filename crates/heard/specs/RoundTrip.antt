@@ -8,7 +8,6 @@ use Rattle.wire.specs.declared.ids.BusId.{BusId}
 use Rattle.wire.specs.Frames.{maxPayload}
 use Rattle.wire.specs.Delivered.{over}
 use Rattle.heard.specs.declared.reply.Reply.the-variants.{Done}
-use Rattle.heard.specs.declared.record.Heard.{Heard}
 use Rattle.heard.specs.declared.reading.HeardAt.{HeardAt}
 use Rattle.heard.specs.declared.writing.Written.{Written}
 use Rattle.heard.specs.Kinds.{countBytes}
@@ -69,8 +68,8 @@ ReaderPromises bytes at r = r ≡ heardAt bytes at
 
 -- calls of the writer, all answered Done, each into the part of the output that was still free: what they left, and how many bytes they wrote
 pub data WrittenBy : (output : List ℕ) → List Record → (left : List ℕ) → (written : ℕ) → Type 0 where
-  no-call : {output : List ℕ} → WrittenBy output [] output 0
-  one-call : {output rest : List ℕ} {records : List Record} {n : ℕ} (r : Record) (w : Written) (left : List ℕ)
+  none-written : {output : List ℕ} → WrittenBy output [] output 0
+  one-written : {output rest : List ℕ} {records : List Record} {n : ℕ} (r : Record) (w : Written) (left : List ℕ)
       → WriterPromises r output w left → w .reply ≡ Done → WrittenBy (drop (w .written) left) records rest n
       → WrittenBy output (r ∷ records) (take (w .written) left ++ rest) (w .written + n)
 
@@ -78,7 +77,7 @@ pub data WrittenBy : (output : List ℕ) → List Record → (left : List ℕ) �
 pub data ReadBy (bytes : List ℕ) : (at : ℕ) → Recording → Type 0 where
   at-end : {at : ℕ} → length bytes ≤ at → ReadBy bytes at (stopped Done at)
   at-fault : {at : ℕ} (r : HeardAt) → at < length bytes → ReaderPromises bytes at r → r .ok ≡ false → ReadBy bytes at (stopped (r .reply) (r .next))
-  one-call : {at : ℕ} {rest : Recording} (r : HeardAt) → at < length bytes → ReaderPromises bytes at r → r .ok ≡ true → ReadBy bytes (r .next) rest
+  one-read : {at : ℕ} {rest : Recording} (r : HeardAt) → at < length bytes → ReaderPromises bytes at r → r .ok ≡ true → ReadBy bytes (r .next) rest
       → ReadBy bytes at (behind (recordIn bytes r) rest)
 
 -- THE CALLS: what the one wrote, the other reads

@@ -18,15 +18,15 @@ moved by r =
       ok = r .ok;
       reply = r .reply;
       heard = r .heard;
-      payload = cond (r .ok) (by + r .payload) 0;
+      payload = cond (r .ok) (r .payload + by) 0;
       length = r .length;
-      next = by + r .next;
+      next = r .next + by;
     }
 
 -- the answer of the window is that of the whole recording, and so are the record and its payload
 pub record SameAnswer (gone window beyond : List ℕ) (at : ℕ) : Type 0 where
-  pub answer : heardAt (gone ++ (window ++ beyond)) (length gone + at) ≡ moved (length gone) (heardAt window at)
-  pub record-in : recordIn (gone ++ (window ++ beyond)) (heardAt (gone ++ (window ++ beyond)) (length gone + at)) ≡ recordIn window (heardAt window at)
+  pub answer : heardAt (gone ++ (window ++ beyond)) (at + length gone) ≡ moved (length gone) (heardAt window at)
+  pub record-in : recordIn (gone ++ (window ++ beyond)) (heardAt (gone ++ (window ++ beyond)) (at + length gone)) ≡ recordIn window (heardAt window at)
 
 -- every answer of a window counts but CutRecord, which counts where nothing comes any more
 abbrev pub WindowAnswers : Type 0
