@@ -1,24 +1,29 @@
 -- What calls of the writer wrote, calls of the reader read.
 use mathlib.Core.Path.{_≡_, refl, sym, ap, _∙_}
 use mathlib.Core.Bool.{Bool, true, false, cond}
-use mathlib.Core.List.{List}
-use Prim.Native.Nat.{ℕ, zero, suc, _+_, _-_, _≤_}
+use mathlib.Core.List.{List, [], _∷_, append-assoc}
+use Prim.Native.Nat.{ℕ, zero, suc, _+_, _≤_, _<_}
 use native.Mathlib.Omega.{arith}
-use borrow.Author.Tests.{le-ltb, le-leb, lt-leb}
+use borrow.Author.Tests.{le-ltb, le-leb, lt-leb, leb-true, leb-false}
 use denote.Ref.{now}
-use lib.ListN.{length, take, length-append}
-use lib.Seq.{take-append-seam, take-append-add}
-use lib.Dec.{ltb}
+use lib.ListN.{length, take, drop, length-append, length-drop}
+use lib.Seq.{take-append-seam, drop-append-seam, take-append-add, drop-drop}
+use lib.Dec.{ltb, leb}
 use Rattle.wire.specs.Frames.{maxPayload}
+use Rattle.wire.specs.Delivered.{over}
 use Rattle.heard.specs.declared.reply.Reply.the-variants.{Done, ShortOutput}
 use Rattle.heard.specs.declared.record.Heard.{Heard}
+use Rattle.heard.specs.declared.reading.HeardAt.{HeardAt}
 use Rattle.heard.specs.declared.writing.Written.{Written}
 use Rattle.heard.specs.Replies.{numberOf}
 use Rattle.heard.specs.Records.{atCounter, recordOf}
+use Rattle.heard.specs.Reading.{heardAt}
 use Rattle.heard.specs.Writing.{Writing, notWritten, writing}
-use Rattle.heard.specs.Recordings.{Record, recordingOf, Recording, readFrom}
-use Rattle.heard.specs.RoundTrip.{AllWritable, WriterPromises, ReaderPromises, WrittenBy, ReadBy, RoundTripOfCalls}
+use Rattle.heard.specs.Recordings.{Record, recordingOf, Recording, stopped, behind, recordIn, readFrom}
+use Rattle.heard.specs.RoundTrip.{AllWritable, WriterPromises, ReaderPromises, WrittenBy, ReadBy}
+use Rattle.heard.specs.RoundTrip.{RoundTripOfCalls, EveryListIsWritten, EveryRecordingIsRead}
 use Rattle.heard.specs.RoundTrip.{none-written, one-written, at-end, at-fault, one-read}
+use Rattle.heard.proofs.Ways.{writes}
 use Rattle.heard.proofs.Passed.{within}
 use Rattle.heard.proofs.RoundTrip.{round-trip-of-many}
 use Rattle.heard.proofs.reading.heard_at.Reads as heard-at
@@ -71,6 +76,49 @@ pub round-trip-of-calls : RoundTripOfCalls
 round-trip-of-calls output left records written read all wrote by =
     let r = calls-write all wrote in
     calls-read (length (take written left)) (omega arith) by ∙ rw (r .bytes, r .long) (round-trip-of-many records all)
+
+-- ── such calls there are ──
+written-by : {output left left′ : List ℕ} {records : List Record} {n n′ : ℕ} → left ≡ left′ → n ≡ n′ → WrittenBy output records left n
+    → WrittenBy output records left′ n′
+written-by e f w = rw (e, f) at w
+
+pub every-list-is-written : EveryListIsWritten
+every-list-is-written output [] all room = none-written
+every-list-is-written output ((h, payload) ∷ records) all room =
+    let bytes = recordOf h payload in
+    let more = recordingOf records in
+    let both = length-append bytes more in
+    let is = writes h payload output (all .0 .short) (omega arith) in
+    let rest = every-list-is-written (drop (length bytes) output) records (all .1) (omega (arith, length-drop (length bytes) output)) in
+    written-by
+    (rw (take-append-seam bytes (drop (length bytes) output), both, ← drop-drop (length more) (length bytes) output) (sym (append-assoc bytes more _)))
+    (sym both)
+    (one-written {rest = over more (drop (length bytes) output)} (h, payload) (record { reply = Done; written = length bytes }) (over bytes output)
+    (rw is (refl, refl)) refl (rw (drop-append-seam bytes (drop (length bytes) output)) rest))
+
+-- a reading that goes on, by the two tests that decide how
+module _ (most : ℕ) (bytes : List ℕ) (at : ℕ) (others : (next : ℕ) → at < next → ReadBy bytes next (readFrom most bytes next)) where
+  abbrev r : HeardAt
+  r = heardAt bytes at
+
+  abbrev byAnswer : (ok : Bool) → Recording
+  byAnswer ok = cond ok (behind (recordIn bytes r) (readFrom most bytes (r .next))) (stopped (r .reply) (r .next))
+
+  by-answer : (ok : Bool) → r .ok ≡ ok → at < length bytes → ReadBy bytes at (byAnswer ok)
+  by-answer true ok more = one-read r more refl ok (others (r .next) (within bytes at r refl ok .ahead))
+  by-answer false fault more = at-fault r more refl fault
+
+  by-end : (end : Bool) → leb (length bytes) at ≡ end → ReadBy bytes at (cond end (stopped Done at) (byAnswer (r .ok)))
+  by-end true e = at-end (leb-true _ _ e)
+  by-end false e = by-answer (r .ok) refl (leb-false _ _ e)
+
+reads-from : (most : ℕ) (bytes : List ℕ) (at : ℕ) → length bytes ≤ most + at → ReadBy bytes at (readFrom most bytes at)
+reads-from zero bytes at enough = let over : length bytes ≤ at = omega arith in at-end over
+reads-from (suc most) bytes at enough =
+    by-end most bytes at (λ next ahead. reads-from most bytes next (omega arith)) (leb (length bytes) at) refl
+
+pub every-recording-is-read : EveryRecordingIsRead
+every-recording-is-read bytes = reads-from (length bytes) bytes 0 (omega arith)
 
 -- ── these are the promises of the sources ──
 -- two statements about lifetimes, the input, the answer, and what is behind each parameter at the exit, are one

@@ -85,3 +85,12 @@ abbrev pub RoundTripOfCalls : Type 0
 RoundTripOfCalls =
     (output left : List ℕ) (records : List Record) (written : ℕ) (read : Recording) → AllWritable records
     → WrittenBy output records left written → ReadBy (take written left) 0 read → read ≡ readWhole records written
+
+-- such calls there are: for records that the output has room for, and for every recording
+abbrev pub EveryListIsWritten : Type 0
+EveryListIsWritten =
+    (output : List ℕ) (records : List Record) → AllWritable records → length (recordingOf records) ≤ length output
+    → WrittenBy output records (over (recordingOf records) output) (length (recordingOf records))
+
+abbrev pub EveryRecordingIsRead : Type 0
+EveryRecordingIsRead = (bytes : List ℕ) → ReadBy bytes 0 (recordingIn bytes)
