@@ -6,6 +6,7 @@ use text::comments;
 use text::input;
 use text::input::Input;
 
+mod answers;
 mod lines;
 mod replays;
 mod settings;

@@ -1,6 +1,6 @@
 // Replaying a recording that stands in a line.
-use crate::lines;
-use crate::lines::Answer;
+use crate::answers;
+use crate::answers::Answer;
 use crate::settings::List;
 use playback::Playback;
 use playback::set_up::Prepared;
@@ -36,7 +36,7 @@ pub(crate) fn replay(list: List, line: &[u8], at: usize, out: &mut Buffer, to: u
             to: replayed(list, part(&bytes, 0, read.len), out, to),
         };
     }
-    lines::unread(list, out, to)
+    answers::unread(list, out, to)
 }
 
 // REPLY OFFSET[ TICK:STREAM:PAYLOAD].., or REPLY 0 where a setting is refused. The reply stands before the deliveries, so the
@@ -79,7 +79,6 @@ fn prepare(list: List) -> Prepared {
 }
 
 fn play(ready: Playback, recording: &[u8], telling: bool, out: &mut Buffer, to: usize) -> Played {
-    let mut lent = [0u8; Playback::ROOM];
     let mut playback = ready;
     let mut window = Window {
         from: 0,
@@ -90,6 +89,7 @@ fn play(ready: Playback, recording: &[u8], telling: bool, out: &mut Buffer, to: 
     let mut turns = u64::MAX;
     while turns > 0 {
         turns -= 1;
+        let mut lent = [0u8; Playback::ROOM];
         let step = playback.step(window::bytes(window, recording), true, &mut lent);
         let way = step.way;
         let then = step.playback;

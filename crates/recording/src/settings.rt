@@ -1,6 +1,6 @@
 // The list of settings, and the lines that fill it.
-use crate::lines;
-use crate::lines::Answer;
+use crate::answers;
+use crate::answers::Answer;
 use text::Buffer;
 use text::numbers;
 use text::output;
@@ -55,7 +55,7 @@ pub(crate) fn settings(list: List, line: &[u8], at: usize, out: &mut Buffer, to:
             to: output::put(out, to, b"settings"),
         };
     }
-    lines::unread(list, out, to)
+    answers::unread(list, out, to)
 }
 
 // setting STREAM ROLE CLASS RD DC RA DD
@@ -68,7 +68,7 @@ pub(crate) fn setting(list: List, line: &[u8], at: usize, out: &mut Buffer, to: 
             to: output::put_decimal(out, to, list.len as u64),
         };
     }
-    lines::unread(list, out, to)
+    answers::unread(list, out, to)
 }
 
 fn entry_at(line: &[u8], at: usize) -> EntryAt {

@@ -1,6 +1,6 @@
 // Writing a heard record into an output that is lent, and was `ee` before.
-use crate::lines;
-use crate::lines::Answer;
+use crate::answers;
+use crate::answers::Answer;
 use crate::settings::List;
 use heard::writing::Written;
 use heard::writing::write_heard;
@@ -45,7 +45,7 @@ pub(crate) fn write(list: List, line: &[u8], at: usize, out: &mut Buffer, to: us
             to: output::put_hex(out, past, part(&lent, 0, size.value)),
         };
     }
-    lines::unread(list, out, to)
+    answers::unread(list, out, to)
 }
 
 // Into the first bytes of those that are lent.

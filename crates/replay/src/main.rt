@@ -13,17 +13,19 @@ mod lines;
 // How many bytes of the recording are at hand at most. A step never asks for more of them while half of these are.
 const WIDE: usize = 131072;
 
+type Wide = [u8; WIDE];
+
 fn main() {
     let mut buf = [0u8; WIDE];
     let mut out = [0u8; SIZE];
-    let mut lent = [0u8; Playback::ROOM];
     let mut window = Window::new();
     let mut playback = receiver();
     let mut to = 0;
     let mut turns = u64::MAX;
     while turns > 0 {
         turns -= 1;
-        let step = playback.step(window::bytes(window, &buf), window.ended, &mut lent);
+        let mut lent = [0u8; Playback::ROOM];
+        let step = playback.step(at_hand(window, &buf), window.ended, &mut lent);
         let way = step.way;
         let then = step.playback;
         let past = lines::put_all(&mut out, to, then.ticks, part(&lent, 0, step.written));
@@ -34,7 +36,7 @@ fn main() {
             }
             Way::MoreBytes => {
                 to = lines::flush(&out, past);
-                window = window::read(window, &mut buf);
+                window = read_on(window, &mut buf);
             }
             Way::MoreRoom => return,
             Way::Over => {
@@ -52,4 +54,12 @@ fn receiver() -> Playback {
     let settings = Settings::of_two_message(Settings::RECEIVE, 2, 3, 2, 6);
     let prepared = Playback::fresh().set_up(Stream(5), settings);
     prepared.playback
+}
+
+fn at_hand(window: Window, buf: &Wide) -> &[u8] {
+    window::bytes(window, buf)
+}
+
+fn read_on(window: Window, buf: &mut Wide) -> Window {
+    window::read(window, buf)
 }
