@@ -6,35 +6,38 @@ use Prim.Native.Nat.{ℕ, suc, _+_, _-_, _%_, _≤_, _<_, min}
 use native.Mathlib.Omega.{arith}
 use lib.Dec.{eqb}
 use lib.ListN.{length, take, drop, getD, drop-of-length-le}
-use borrow.Author.Tests.{eq-eqb, ne-eqb}
+use borrow.Author.Tests.{eq-eqb, ne-eqb, lt-ltb, le-ltb}
 use Rattle.wire.specs.declared.settings.Settings.{Settings}
 use Rattle.wire.specs.Settings.{isTwoMessage}
 use Rattle.wire.specs.declared.ids.Stream.{Stream}
 use Rattle.wire.specs.Delivered.{over}
 use Rattle.heard.specs.declared.reading.HeardAt.{HeardAt}
 use Rattle.heard.specs.declared.reply.Reply.{Reply}
-use Rattle.heard.specs.declared.reply.Reply.the-variants.{Done, CutRecord}
+use Rattle.heard.specs.declared.reply.Reply.the-variants.{Done, ShortOutput, CutRecord}
 use Rattle.heard.specs.Replies.{numberOf}
+use Rattle.heard.specs.Reading.{heardAt}
 use Rattle.heard.specs.Recordings.{recordIn}
 use Rattle.node.specs.declared.Answered.{Answered}
 use Rattle.node.specs.declared.Delivered.{Delivered}
 use Rattle.node.specs.Nodes.{asAnswered, asDelivered}
 use Rattle.node.specs.SetUp.{setUp}
 use Rattle.node.specs.Hear.{hear}
-use Rattle.node.specs.Tick.{tick}
+use Rattle.node.specs.Tick.{tickRoom, tick}
 use Rattle.node.specs.declared.slots.Message.{Message}
 use Rattle.node.specs.declared.slots.Slot.{Slot}
 use Rattle.node.specs.Reachable.{longest}
 use Rattle.node.specs.Tick.{ageOf}
 use Rattle.node.specs.Clock.{Clock, period, rolled}
+use Rattle.node.proofs.Choices.{either-way}
 use Rattle.node.proofs.slots.Finding.{noSlot}
 use Rattle.node.proofs.slots.Downward.{step-down}
 use Rattle.playback.specs.declared.Playback.{Playback}
 use Rattle.playback.specs.declared.set_up.Prepared.{Prepared}
-use Rattle.playback.specs.declared.step.Way.the-variants.{On, MoreBytes, Over}
+use Rattle.playback.specs.declared.step.Way.the-variants.{On, MoreBytes, MoreRoom, Over}
 use Rattle.playback.specs.declared.step.Stepped.{Stepped}
-use Rattle.playback.specs.Quiet.{withSlot, quietIn, standing}
-use Rattle.playback.specs.Steps.{in64, withNode, prepared, stopped, jumped, tickStep, hearStep, atFault, asStepped}
+use Rattle.playback.specs.Gaps.{gapFrom}
+use Rattle.playback.specs.Quiet.{withSlot, quietIn, quiet, standing}
+use Rattle.playback.specs.Steps.{in64, withNode, prepared, stopped, jumped, tickStep, hearStep, towards, atFault, Step, step, asStepped}
 
 -- ── how long a message is held at the longest ──
 module _ (s : Settings) (m : Message) where
@@ -113,3 +116,38 @@ module _ (p : Playback) where
 
     pub no-more-follows : eqb n cut && not ended ≡ false → stopped Over reply (p .taken) p ≡ atFault reply ended p
     no-more-follows t = rw (← e, ← f, t)
+
+  pub fault-writes-nothing : (reply : Reply) (ended : Bool) (output : List ℕ) → output ≡ over (atFault reply ended p .bytes) output
+  fault-writes-nothing reply ended output =
+      sym (either-way (λ (s : Step). over (s .bytes) output) (eqb (numberOf reply) (numberOf CutRecord) && not ended) refl refl)
+
+-- ── a step ──
+module _ (window : List ℕ) (ended : Bool) (output : List ℕ) (p : Playback) where
+  pub nothing-left : ended && eqb (length window) 0 ≡ true → step window ended output p ≡ stopped Over Done 0 p
+  unfolding step
+  nothing-left e = rw e
+
+  module _ (more : ended && eqb (length window) 0 ≡ false) (read : HeardAt) (r : read ≡ heardAt window 0) where
+    pub not-read : read .ok ≡ false → step window ended output p ≡ atFault (read .reply) ended p
+    unfolding step
+    not-read e = rw (more, ← r, e)
+
+    module _ (ok : read .ok ≡ true) where
+      pub no-room : length output < tickRoom → step window ended output p ≡ stopped MoreRoom ShortOutput 0 p
+      unfolding step
+      no-room short = rw (more, ← r, ok, lt-ltb _ _ short)
+
+      module _ (room : tickRoom ≤ length output) (gap still : ℕ) (g : gap ≡ gapFrom (p .ticks) (read .heard)) (k : still ≡ quiet rolled gap (p .node))
+          (ready : Playback) (j : ready ≡ jumped still p) where
+        pub to-a-tick : still < gap → step window ended output p ≡ tickStep output ready
+        unfolding step towards
+        to-a-tick before = rw (more, ← r, ok, le-ltb _ _ room, ← g, ← k, lt-ltb _ _ before, j)
+
+        pub to-the-record : gap ≤ still → step window ended output p ≡ hearStep read window output ready
+        unfolding step towards
+        to-the-record beyond = rw (more, ← r, ok, le-ltb _ _ room, ← g, ← k, le-ltb _ _ beyond, j)
+
+  -- what the code answers and leaves in the output
+  pub does : {r : Stepped} {left : List ℕ} {s : Step} → step window ended output p ≡ s → r ≡ asStepped s → left ≡ over (s .bytes) output
+      → (r ≡ asStepped (step window ended output p)) × (left ≡ over (step window ended output p .bytes) output)
+  does e answers leaves = (rw e answers, rw e leaves)

@@ -5,7 +5,7 @@ use mathlib.Core.Path.{_≡_}
 use mathlib.Core.Bool.{Bool, true, false}
 use mathlib.Core.Logic.{_⊎_}
 use mathlib.Core.List.{List, [], _∷_, _++_, map}
-use lib.ListN.{length, take, drop}
+use lib.ListN.{length, take}
 use lib.Dec.{eqb}
 use Rattle.wire.specs.declared.ids.Stream.{Stream}
 use Rattle.wire.specs.declared.settings.Settings.{Settings}
@@ -13,6 +13,7 @@ use Rattle.wire.specs.declared.reply.Reply as node-reply
 use Rattle.wire.specs.Replies as of-node
 use Rattle.wire.specs.Delivered.{over, AreBytes}
 use Rattle.heard.specs.Replies as of-reader
+use Rattle.heard.specs.Windows.{mostAsked}
 use Rattle.node.specs.Tick.{tickRoom}
 use Rattle.playback.specs.declared.Playback.{Playback}
 use Rattle.playback.specs.declared.set_up.Prepared.{Prepared}
@@ -34,15 +35,17 @@ pub data Prepares : Playback → List (Stream × Settings) → node-reply.Reply 
       → Prepares p ((s, x) ∷ rest) reply end
 
 -- ── the steps ──
--- what is lent to a step, where so many bytes of the recording were taken: an output, and bytes of the recording from there on, as many as the
--- caller likes; that no more follow is said only if none do
+-- what is lent to a step, where so many bytes of the recording are gone: an output, and the next bytes, as many as the caller likes; that no more
+-- follow them is said only if none do
 pub record Lent (recording : List ℕ) (at : ℕ) : Type 0 where
   pub window : List ℕ
   pub ended : Bool
   pub output : List ℕ
-  pub behind : List ℕ
-  pub next-bytes : window ++ behind ≡ drop at recording
-  pub at-the-end : ended ≡ true → behind ≡ []
+  pub gone : List ℕ
+  pub beyond : List ℕ
+  pub all : gone ++ (window ++ beyond) ≡ recording
+  pub place : length gone ≡ at
+  pub none-beyond : ended ≡ true → beyond ≡ []
 
 module _ {recording : List ℕ} {at : ℕ} where
   -- the promise of a step: of what it returns, and of what it leaves in the lent output
@@ -114,7 +117,7 @@ Ends =
 abbrev pub Fed : Type 0
 Fed =
     (recording : List ℕ) (at : ℕ) (l : Lent recording at) (p : Playback) (r : Stepped) (left : List ℕ) → Promised l p r left
-    → AreBytes (l .window) → tickRoom ≤ length (l .output) → (l .ended ≡ true) ⊎ (65537 ≤ length (l .window)) → (r .way ≡ On) ⊎ (r .way ≡ Over)
+    → AreBytes (l .window) → tickRoom ≤ length (l .output) → (l .ended ≡ true) ⊎ (mostAsked ≤ length (l .window)) → (r .way ≡ On) ⊎ (r .way ≡ Over)
 
 -- so a whole run there is
 abbrev pub SomeRun : Type 0
