@@ -4,6 +4,7 @@ use mathlib.Core.Bool.{Bool, true, false, cond}
 use mathlib.Core.Logic.{_⊎_, inl, inr}
 use mathlib.Core.List.{List, [], _∷_, _++_, map}
 use Prim.Native.Nat.{ℕ, zero, suc, _+_, _-_, _≤_, _<_, min}
+use native.Mathlib.Nat.{min-eq-left, min-eq-right, le-of-lt}
 use native.Mathlib.Omega.{arith}
 use borrow.Author.Tests.{leb-true, leb-false}
 use lib.Dec.{leb}
@@ -81,38 +82,41 @@ too-old now x k old = by (same-or-unheld (now + 1 - x .message .stamp) x)
     by (inr e) = e
 
 -- the tick that ends the quiet
-fewer : (now most k : ℕ) (xs : List Slot) → All (KeptSlot now) xs → All (KeptSlot (now + k)) xs → k ≡ quietIn unbounded now most xs → k < most
-    → heldIn (map (tickSlot unbounded (now + k + 1)) xs) < heldIn xs
-unfolding quietIn withSlot
-fewer now most k [] ks later e less = absurd (omega arith)
-fewer now most k (x ∷ xs) (kx, ks) (lx, later) e less = by (x .message .held) refl e
-  where
-    others : ℕ
-    others = quietIn unbounded now most xs
+module _ (now k : ℕ) where
+  abbrev Fewer : List Slot → Type 0
+  Fewer xs = heldIn (map (tickSlot unbounded (now + k + 1)) xs) < heldIn xs
 
-    by-others : k ≡ others → heldIn (map (tickSlot unbounded (now + k + 1)) (x ∷ xs)) < heldIn (x ∷ xs)
-    by-others same =
-        omega (arith, no-more (ageOf unbounded (now + k + 1) x) x, fewer now most k xs ks later same less)
+  fewer-behind : (x : Slot) (xs : List Slot) → Fewer xs → Fewer (x ∷ xs)
+  fewer-behind x xs less = omega (arith, no-more (ageOf unbounded (now + k + 1) x) x, less)
 
-    by-here : x .message .held ≡ true → k ≡ longest (x .settings) (x .message) - (now - x .message .stamp)
-        → heldIn (map (tickSlot unbounded (now + k + 1)) (x ∷ xs)) < heldIn (x ∷ xs)
-    by-here held mine =
-        let gone = too-old (now + k) x lx (omega (arith, mine, kx .message .stamped held, kx .message .young held)) in
-        rw (held, gone) (omega (arith, none-more (now + k + 1) xs))
+  fewer-here : (x : Slot) (xs : List Slot) → KeptSlot now x → KeptSlot (now + k) x → x .message .held ≡ true
+      → k ≡ longest (x .settings) (x .message) - (now - x .message .stamp) → Fewer (x ∷ xs)
+  fewer-here x xs kx lx held mine =
+      let gone = too-old (now + k) x lx (omega (arith, mine, kx .message .stamped held, kx .message .young held)) in
+      let was : one x ≡ 1 = ap (λ (h : Bool). cond h 1 0) held in
+      let is : one (tickSlot unbounded (now + k + 1) x) ≡ 0 = ap (λ (h : Bool). cond h 1 0) gone in
+      omega (arith, was, is, none-more (now + k + 1) xs)
 
-    by : (held : Bool) → x .message .held ≡ held → k ≡ withSlot unbounded now x others
-        → heldIn (map (tickSlot unbounded (now + k + 1)) (x ∷ xs)) < heldIn (x ∷ xs)
-    by false h f = by-others (f ∙ rw h)
-    by true h f = least (rw h at f)
-      where
-        least : k ≡ min (longest (x .settings) (x .message) - (now - x .message .stamp)) others
-            → heldIn (map (tickSlot unbounded (now + k + 1)) (x ∷ xs)) < heldIn (x ∷ xs)
-        least g = go (leb (longest (x .settings) (x .message) - (now - x .message .stamp)) others) refl
-          where
-            go : (t : Bool) → leb (longest (x .settings) (x .message) - (now - x .message .stamp)) others ≡ t
-                → heldIn (map (tickSlot unbounded (now + k + 1)) (x ∷ xs)) < heldIn (x ∷ xs)
-            go true t = by-here h (omega (arith, g, leb-true _ _ t))
-            go false t = by-others (omega (arith, g, leb-false _ _ t))
+  fewer-by : (x : Slot) (xs : List Slot) → KeptSlot now x → KeptSlot (now + k) x → (others : ℕ) → k ≡ withSlot unbounded now x others
+      → (k ≡ others → Fewer xs) → Fewer (x ∷ xs)
+  unfolding withSlot
+  fewer-by x xs kx lx others e behind = by-held (x .message .held) refl e
+    where
+      mine : ℕ
+      mine = longest (x .settings) (x .message) - (now - x .message .stamp)
+
+      by-least : x .message .held ≡ true → k ≡ min mine others → (t : Bool) → leb mine others ≡ t → Fewer (x ∷ xs)
+      by-least h f true t = fewer-here x xs kx lx h (f ∙ min-eq-left (leb-true mine others t))
+      by-least h f false t = fewer-behind x xs (behind (f ∙ min-eq-right (le-of-lt (leb-false mine others t))))
+
+      by-held : (held : Bool) → x .message .held ≡ held → k ≡ cond held (min mine others) others → Fewer (x ∷ xs)
+      by-held false h f = fewer-behind x xs (behind f)
+      by-held true h f = by-least h f (leb mine others) refl
+
+  fewer : (most : ℕ) (xs : List Slot) → All (KeptSlot now) xs → All (KeptSlot (now + k)) xs → k ≡ quietIn unbounded now most xs → k < most → Fewer xs
+  unfolding quietIn
+  fewer most [] ks ls e less = absurd (omega arith)
+  fewer most (x ∷ xs) (kx, ks) (lx, ls) e less = fewer-by x xs kx lx (quietIn unbounded now most xs) e (λ same. fewer most xs ks ls same less)
 
 -- ── the calls ──
 after-behind : (n : Node) (xs ys : List Call) → afterFrom unbounded n (xs ++ ys) ≡ afterFrom unbounded (afterFrom unbounded n xs) ys
@@ -132,12 +136,13 @@ pub fewer-held : (most : ℕ) (n : Node) (output : List ℕ) → Kept n → quie
 fewer-held most n output kept less long =
     let k : ℕ = quiet unbounded most n in
     rw (ticked-slots output (standing (n .counter + k) n) long .0)
-    (fewer (n .counter) most k (n .slots) (kept .each) (kept-standing most k n kept (omega arith) .each) refl less)
+    (fewer (n .counter) k most (n .slots) (kept .each) (kept-standing most k n kept (omega arith) .each) refl less)
 
 pub no-longer-quiet : NoLongerQuiet
 no-longer-quiet most n kept less =
     let k : ℕ = quiet unbounded most n in
-    let last : ticks k ++ ticks 1 ≡ ticks (suc k) = replicate-append-replicate k 1 (Call.tick room) ∙ ap ticks (omega arith) in
+    let more : k + 1 ≡ suc k = omega arith in
+    let last : ticks k ++ ticks 1 ≡ ticks (suc k) = replicate-append-replicate k 1 (Call.tick room) ∙ ap (λ (j : ℕ). ticks j) more in
     let then = after-behind n (ticks k) (ticks 1) in
     rw (← last, then, jump-is-ticking most k n (omega arith) .0) (fewer-held most n room kept less (omega arith))
 
@@ -145,11 +150,11 @@ no-longer-quiet most n kept less =
 on-first-held : (test : Slot → Bool) (change : Slot → Slot) (xs : List Slot) → heldIn (onFirst test change xs) ≤ heldIn xs + 1
 unfolding onFirst
 on-first-held test change [] = omega arith
-on-first-held test change (x ∷ xs) = go (test x)
+on-first-held test change (x ∷ xs) = go (on-first-held test change xs) (test x)
   where
-    go : (t : Bool) → heldIn (cond t (change x ∷ xs) (x ∷ onFirst test change xs)) ≤ heldIn (x ∷ xs) + 1
-    go true = omega (arith, one-at-most (change x .message .held), one-at-most (x .message .held))
-    go false = omega (arith, on-first-held test change xs)
+    go : heldIn (onFirst test change xs) ≤ heldIn xs + 1 → (t : Bool) → heldIn (cond t (change x ∷ xs) (x ∷ onFirst test change xs)) ≤ heldIn (x ∷ xs) + 1
+    go behind true = omega (arith, one-at-most (change x .message .held), one-at-most (x .message .held))
+    go behind false = omega (arith, behind)
 
 pub heard-held : (id : BusId) (dlc : ℕ) (payload output : List ℕ) (n : Node)
     → (heldIn (hear id dlc payload output n .node .slots) ≤ heldIn (n .slots) + 1) × (hear id dlc payload output n .node .counter ≡ n .counter)
@@ -160,11 +165,11 @@ heard-held id dlc payload output n =
 first-free-held : (s : Stream) (x : Settings) (xs : List Slot) → heldIn (onFirst isFree (λ y. slotFor s x) xs) ≤ heldIn xs
 unfolding onFirst
 first-free-held s x [] = omega arith
-first-free-held s x (y ∷ ys) = go (isFree y)
+first-free-held s x (y ∷ ys) = go (first-free-held s x ys) (isFree y)
   where
-    go : (t : Bool) → heldIn (cond t (slotFor s x ∷ ys) (y ∷ onFirst isFree (λ z. slotFor s x) ys)) ≤ heldIn (y ∷ ys)
-    go true = omega arith
-    go false = omega (arith, first-free-held s x ys)
+    go : heldIn (onFirst isFree (λ z. slotFor s x) ys) ≤ heldIn ys → (t : Bool) → heldIn (cond t (slotFor s x ∷ ys) (y ∷ onFirst isFree (λ z. slotFor s x) ys)) ≤ heldIn (y ∷ ys)
+    go behind true = omega arith
+    go behind false = omega (arith, behind)
 
 pub set-up-held : (s : Stream) (x : Settings) (n : Node)
     → (heldIn (setUp s x n .node .slots) ≤ heldIn (n .slots)) × (setUp s x n .node .counter ≡ n .counter)

@@ -3,6 +3,7 @@ use mathlib.Core.Path.{_≡_, refl, sym, ap, subst, _∙_}
 use mathlib.Core.Bool.{Bool, true, false, cond}
 use mathlib.Core.List.{List, [], _∷_, map}
 use Prim.Native.Nat.{ℕ, _+_, _-_, _%_, _≤_, _<_, min}
+use native.Mathlib.Nat.{mod-add-mod}
 use native.Mathlib.Omega.{arith}
 use borrow.Author.Tests.{le-ltb}
 use lib.ListN.{length}
@@ -69,11 +70,10 @@ hear-room id dlc payload output n long = let enough : hearRoom ≤ length output
 module _ (u : Node) (at : ℕ) (p : Playback) (holds : Holds u at p) where
   pub jump-holds : (most k : ℕ) → k ≤ quiet unbounded most u → Holds (standing (u .counter + k) u) at (jumped k p)
   jump-holds most k h =
-      let counter : (u .counter % period + k) % period ≡ (u .counter + k) % period = omega arith in
       record {
         kept = kept-standing most k u (holds .kept) h;
-        node = rw (holds .node, counter);
-        ticks = rw (holds .ticks) (omega arith);
+        node = rw (holds .node, mod-add-mod (u .counter) period k);
+        ticks = rw (holds .ticks) (mod-add-mod (u .counter) 18446744073709551616 k);
         taken = holds .taken;
       }
 

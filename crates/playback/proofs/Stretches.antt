@@ -16,7 +16,7 @@ use Rattle.node.specs.Nodes.{Outcome, done}
 use Rattle.node.specs.Tick.{lapsed, late, due, holdOver, holdLength, ageOf, tickSlot, dueSlots, recordsFrom, tick}
 use Rattle.node.specs.Selection.{mayStir, stirs}
 use Rattle.node.specs.Clock.{Clock, period, unbounded, rolled}
-use Rattle.node.specs.Calls.{Call, outcome, afterFrom, Answer, answersFrom, rollSlot, roll}
+use Rattle.node.specs.Calls.{Call, outcome, afterFrom, Answer, answerOf, answersFrom}
 use Rattle.node.specs.Reachable.{longest, KeptSlot, All, Kept}
 use Rattle.node.proofs.Choices.{contrary}
 use Rattle.node.proofs.slots.Table.{all-weaken}
@@ -99,7 +99,10 @@ module _ (clock : Clock) where
     quiet-ticks (suc k) n all =
         let (node, answers) = quiet-ticks k (standing (clock .next (n .counter)) n) (goes-on (n .counter) k (n .slots) all) in
         let one = quiet-tick k n all in
-        (rw one node, rw one (ap (λ (l : List Answer). silent ∷ l) answers))
+        (
+          ap (λ (o : Outcome). afterFrom clock (o .node) (ticks k)) one ∙ node,
+          ap (λ (o : Outcome). answerOf o ∷ answersFrom clock (o .node) (ticks k)) one ∙ ap (λ (l : List Answer). silent ∷ l) answers,
+        )
 
 -- ── with counts without bound, and with the counter that rolls over ──
 advanced-unbounded : (k now : ℕ) → advanced unbounded k now ≡ now + k
