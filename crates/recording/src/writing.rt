@@ -49,14 +49,7 @@ pub(crate) fn write(list: List, line: &[u8], at: usize, out: &mut Buffer, to: us
 }
 
 // Into the first bytes of those that are lent.
-fn lend(
-    lent: &mut [u8],
-    size: usize,
-    counter: u16,
-    id: BusId,
-    dlc: u8,
-    payload: &[u8],
-) -> Written {
+fn lend(lent: &mut [u8], size: usize, counter: u16, id: BusId, dlc: u8, payload: &[u8]) -> Written {
     let n = least(size, lent.len());
     write_heard(&mut lent[0..n], counter, id, dlc, payload)
 }
