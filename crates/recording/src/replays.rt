@@ -40,7 +40,7 @@ pub(crate) fn replay(list: List, line: &[u8], at: usize, out: &mut Buffer, to: u
 }
 
 // REPLY OFFSET[ TICK:STREAM:PAYLOAD].., or REPLY 0 where a setting is refused. The reply stands before the deliveries, so the
-// recording is played twice, and only then told.
+// recording is played twice, and told the second time.
 fn replayed(list: List, recording: &[u8], out: &mut Buffer, to: usize) -> usize {
     let prepared = prepare(list);
     let reply = prepared.reply;
@@ -112,6 +112,7 @@ fn play(ready: Playback, recording: &[u8], telling: bool, out: &mut Buffer, to: 
     }
 }
 
+// A step that is lent all there is asks for nothing more.
 fn is_over(way: Way) -> bool {
     match way {
         Way::On => false,

@@ -10,7 +10,8 @@ use wire::settings::Settings;
 
 mod lines;
 
-// How many bytes of the recording are at hand at most. A step never asks for more of them while half of these are.
+// How many bytes of the recording are at hand at most. A step that has Playback::WINDOW of them asks for no more, so there is
+// room to read into whenever one does.
 const WIDE: usize = 131072;
 
 type Wide = [u8; WIDE];
