@@ -1,5 +1,6 @@
 // The line at hand, and what its first word asks for.
 use text::Buffer;
+use text::comments;
 use text::input::Kind;
 use text::input::Step;
 use text::output;
@@ -31,23 +32,6 @@ pub enum Verb {
     Wait,
 }
 
-// Whether the line of which more is to be read is a comment. Where its first bytes were dropped, that was seen before.
-pub(crate) fn is_comment(step: Step, before: bool, buf: &Buffer) -> bool {
-    let kind = step.kind;
-    let input = step.input;
-    let Kind::More = kind else {
-        return before;
-    };
-    if input.over {
-        return before;
-    }
-    is_hash(buf, step.start)
-}
-
-fn is_hash(s: &[u8], at: usize) -> bool {
-    if at < s.len() { s[at] == b'#' } else { false }
-}
-
 pub(crate) fn verb_at(step: Step, comment: bool, line: &[u8]) -> Verb {
     let kind = step.kind;
     match kind {
@@ -64,15 +48,11 @@ fn dropped(comment: bool) -> Verb {
 }
 
 fn verb_of(line: &[u8]) -> Verb {
-    if is_skipped(line) {
+    if comments::is_skipped(line) {
         return Verb::Skip;
     }
     let w = words::word_at(line, 0);
     named(part(line, w.start, w.end))
-}
-
-fn is_skipped(line: &[u8]) -> bool {
-    (line.len() == 0) | is_hash(line, 0)
 }
 
 fn named(word: &[u8]) -> Verb {

@@ -3,6 +3,7 @@ use crate::answers::State;
 use crate::lines::Route;
 use bench_in_code::outbox::Frames;
 use text::SIZE;
+use text::comments;
 use text::input;
 use text::input::Input;
 
@@ -27,7 +28,7 @@ fn main() {
     while turns > 0 {
         turns -= 1;
         let step = input.next(&buf);
-        comment = lines::is_comment(step, comment, &buf);
+        comment = comments::in_comment(step, comment, &buf);
         let line = input::line(step, &buf);
         let verb = lines::verb_at(step, comment, line);
         let route = lines::route_of(verb);

@@ -48,20 +48,21 @@ record-length h payload =
     let id = littleEndian 4 (h .id .0) in
     omega (arith, length-append (count ++ id) (h .dlc ∷ payload), length-append count id, length-number (countBytes (h .kind)) (h .count))
 
-module _ (h : Heard) (payload out : List ℕ) (room : 9 + countBytes (h .kind) + length payload ≤ length out) where
-  abbrev width : ℕ
+-- the parts of a record in front of its DLC
+module _ (h : Heard) (payload : List ℕ) where
+  abbrev pub width : ℕ
   width = countBytes (h .kind)
 
-  abbrev size : List ℕ
+  abbrev pub size : List ℕ
   size = littleEndian 2 (7 + width + length payload)
 
-  abbrev kind : List ℕ
+  abbrev pub kind : List ℕ
   kind = littleEndian 2 (h .kind)
 
-  abbrev count : List ℕ
+  abbrev pub count : List ℕ
   count = littleEndian width (h .count)
 
-  abbrev id : List ℕ
+  abbrev pub id : List ℕ
   id = littleEndian 4 (h .id .0)
 
   abbrev head : List ℕ
@@ -70,20 +71,21 @@ module _ (h : Heard) (payload out : List ℕ) (room : 9 + countBytes (h .kind) +
   head-length : length head ≡ 8 + width
   head-length = omega (arith, length-append count id, length-number width (h .count))
 
-  stored-head : sets (sets (sets (sets out 0 size) 2 kind) 4 count) (4 + width) id ≡ sets out 0 head
-  stored-head =
-      ap (λ (l : List ℕ). sets (sets l 4 count) (4 + width) id) (stored-behind out size kind 0 2 refl)
-      ∙ ap (λ (l : List ℕ). sets l (4 + width) id) (stored-behind out (size ++ kind) count 0 4 refl)
-      ∙ stored-behind out (size ++ kind ++ count) id 0 (4 + width) (omega (arith, length-number width (h .count)))
+  module _ (out : List ℕ) (room : 9 + width + length payload ≤ length out) where
+    stored-head : sets (sets (sets (sets out 0 size) 2 kind) 4 count) (4 + width) id ≡ sets out 0 head
+    stored-head =
+        ap (λ (l : List ℕ). sets (sets l 4 count) (4 + width) id) (stored-behind out size kind 0 2 refl)
+        ∙ ap (λ (l : List ℕ). sets l (4 + width) id) (stored-behind out (size ++ kind) count 0 4 refl)
+        ∙ stored-behind out (size ++ kind ++ count) id 0 (4 + width) (omega (arith, length-number width (h .count)))
 
-  -- length, kind, count, bus identifier, DLC and payload, stored one behind the other, are the record over the output
-  pub stored-parts :
-      sets (set (sets (sets (sets (sets out 0 size) 2 kind) 4 count) (4 + width) id) (4 + (4 + width)) (h .dlc)) (5 + (4 + width)) payload
-      ≡ over (recordOf h payload) out
-  unfolding recordOf
-  stored-parts =
-      let next : 5 + (4 + width) ≡ suc (4 + (4 + width)) = omega arith in
-      ap (λ (l : List ℕ). sets (set l (4 + (4 + width)) (h .dlc)) (5 + (4 + width)) payload) stored-head
-      ∙ ap (λ (k : ℕ). sets (set (sets out 0 head) (4 + (4 + width)) (h .dlc)) k payload) next
-      ∙ stored-behind out head (h .dlc ∷ payload) 0 (4 + (4 + width)) (omega (arith, head-length))
-      ∙ stored-in-front out (head ++ h .dlc ∷ payload) (omega (arith, head-length, length-append head (h .dlc ∷ payload)))
+    -- length, kind, count, bus identifier, DLC and payload, stored one behind the other, are the record over the output
+    pub stored-parts :
+        sets (set (sets (sets (sets (sets out 0 size) 2 kind) 4 count) (4 + width) id) (4 + (4 + width)) (h .dlc)) (5 + (4 + width)) payload
+        ≡ over (recordOf h payload) out
+    unfolding recordOf
+    stored-parts =
+        let next : 5 + (4 + width) ≡ suc (4 + (4 + width)) = omega arith in
+        ap (λ (l : List ℕ). sets (set l (4 + (4 + width)) (h .dlc)) (5 + (4 + width)) payload) stored-head
+        ∙ ap (λ (k : ℕ). sets (set (sets out 0 head) (4 + (4 + width)) (h .dlc)) k payload) next
+        ∙ stored-behind out head (h .dlc ∷ payload) 0 (4 + (4 + width)) (omega (arith, head-length))
+        ∙ stored-in-front out (head ++ h .dlc ∷ payload) (omega (arith, head-length, length-append head (h .dlc ∷ payload)))

@@ -5,4 +5,6 @@ pub mod Records
 pub mod Reading
 pub mod Writing
 pub mod Recordings
+pub mod RoundTrip
+pub mod Windows
 pub mod WorkedRecords

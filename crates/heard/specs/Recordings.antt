@@ -10,7 +10,6 @@ use Rattle.heard.specs.declared.record.Heard.{Heard}
 use Rattle.heard.specs.declared.reading.HeardAt.{HeardAt}
 use Rattle.heard.specs.Records.{recordOf}
 use Rattle.heard.specs.Reading.{heardAt}
-use Rattle.heard.specs.Writing.{writing}
 
 -- a record with its payload
 abbrev pub Record : Type 0
@@ -19,12 +18,6 @@ Record = Heard × List ℕ
 abbrev pub recordingOf : List Record → List ℕ
 recordingOf [] = []
 recordingOf ((h, payload) ∷ records) = recordOf h payload ++ recordingOf records
-
--- an output after each record was written into the part of it that was still free
-abbrev pub writtenInto : (output : List ℕ) → List Record → List ℕ
-writtenInto output [] = output
-writtenInto output ((h, payload) ∷ records) =
-    let bytes = writing h payload output .bytes in bytes ++ writtenInto (drop (length bytes) output) records
 
 -- ── reading ──
 -- the records that were read; then Done, or why the next one was not, and where reading stopped

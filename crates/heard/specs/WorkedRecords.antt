@@ -57,6 +57,8 @@ readRows =
     row dataAt10 13 (refused 15 13) ∷
     row dataAt10 14 (refused 15 14) ∷
     row (begins 17 32 14) 0 (refused 15 0) ∷
+    -- the longest record's bytes are not enough to tell whether a longer one is cut
+    row (begins 18 32 15) 0 (refused 15 0) ∷
     -- the kind is told before the length, and both behind what is cut
     row (0x00 ∷ 0x00 ∷ 0x1f ∷ 0x00 ∷ []) 0 (refused 16 0) ∷
     row (0x00 ∷ 0x00 ∷ 0x20 ∷ 0x00 ∷ []) 0 (refused 17 0) ∷

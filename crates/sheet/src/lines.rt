@@ -5,6 +5,7 @@ use response::lent::solve_array;
 use response::streams::Errors;
 use response::verdict::Verdict;
 use text::Buffer;
+use text::comments;
 use text::input::Kind;
 use text::input::Step;
 use text::least;
@@ -19,22 +20,27 @@ const MOST: usize = 256;
 // What stands in them before.
 const FILL: u32 = 4294967295;
 
-// Answers one step of the input. An empty line and one that begins with `#` have no answer.
-pub(crate) fn answer(step: Step, line: &[u8], out: &mut Buffer, to: usize) -> usize {
+// Answers one step of the input. An empty line and a comment, however long it is, have no answer.
+pub(crate) fn answer(step: Step, comment: bool, line: &[u8], out: &mut Buffer, to: usize) -> usize {
     let kind = step.kind;
     match kind {
         Kind::Line => answered(line, out, to),
-        Kind::Long => unread(out, to),
+        Kind::Long => dropped(comment, out, to),
         Kind::More => to,
         Kind::End => to,
     }
 }
 
-fn answered(line: &[u8], out: &mut Buffer, to: usize) -> usize {
-    if line.len() == 0 {
+// A line that was too long to be kept.
+fn dropped(comment: bool, out: &mut Buffer, to: usize) -> usize {
+    if comment {
         return to;
     }
-    if line[0] == b'#' {
+    unread(out, to)
+}
+
+fn answered(line: &[u8], out: &mut Buffer, to: usize) -> usize {
+    if comments::is_skipped(line) {
         return to;
     }
     let w = words::word_at(line, 0);

@@ -3,7 +3,7 @@ use Prim.Native.Nat.{ℕ, _+_, _-_, _<_, _≤_, min}
 use native.Mathlib.Numerals.{add-one}
 use native.Mathlib.Omega.{arith}
 use mathlib.Core.Path.{_≡_, refl, sym, ap, _∙_}
-use mathlib.Core.Bool.{Bool, true, false, cond, _||_}
+use mathlib.Core.Bool.{Bool, true, false, cond, _||_, _&&_}
 use mathlib.Core.List.{List, _++_}
 use lib.Dec.{ltb, leb, eqb}
 use lib.ListN.{length, take, drop, getD, set, length-drop}
@@ -12,6 +12,8 @@ use borrow.Author.Tests.{lt-ltb, le-ltb, leb-true, leb-false}
 use Rattle.bytes.specs.Bytes.{indexOf, slice}
 use Rattle.text.specs.Buffer.{size}
 use Rattle.text.specs.Input.{stopOf, startOf, endOf, kindOf, stepOf, keptOf, Refilled}
+use Rattle.text.specs.Window.{bytesIn, WindowRead}
+use Rattle.text.specs.declared.window.Window.{Window}
 use Rattle.text.specs.declared.input.Input.{Input}
 use Rattle.text.specs.declared.input.Step.{Step}
 use Rattle.text.specs.declared.input.Kind.{Kind}
@@ -127,3 +129,18 @@ part-by s f t false e =
 -- a part that is cut to what is there has the same bytes
 pub part-cut : (s : List ℕ) (f t e g : ℕ) → e ≡ min t (length s) → g ≡ min f e → take (e - g) (drop g s) ≡ take (t - f) (drop f s)
 part-cut s f t e g p q = rw (q, p) (part-by s f t (leb f (min t (length s))) refl)
+
+-- a window that is read anew: from old, mid after the move and new after the read
+pub window-read : (old mid new : List ℕ) (w : Window) (to from came : ℕ) → to ≡ min (w .to) (length old) → from ≡ min (w .from) to
+    → to - from + came ≤ length old → take (to - from) mid ≡ take (to - from) (drop from old) → take (to - from) new ≡ take (to - from) mid
+    → WindowRead old w new (record { from = 0; to = to - from + came; ended = eqb came 0 && ltb (to - from) (length old) })
+window-read old mid new w to from came pt pf fits moved stays =
+    let same : take (to - from) (drop from old) ≡ bytesIn old w = part-cut old (w .from) (w .to) to from pt pf in
+    let long : to - from ≡ length (bytesIn old w) =
+    sym (length-take-le (to - from) (drop from old) (simp length-drop (omega arith))) ∙ ap length same in
+    record {
+      came = came;
+      fits = rw long at fits;
+      next = rw long;
+      kept = rw long at (stays ∙ moved ∙ same);
+    }

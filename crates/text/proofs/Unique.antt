@@ -1,4 +1,5 @@
--- Every public promise is met by one answer only, and leaves a lent buffer one content only. `advance` alone reads from outside: of it the index is the same.
+-- Every public promise is met by one answer only, and leaves a lent buffer one content only. `advance` and `window::read` read from outside: of the
+-- first the index is the same.
 use mathlib.Core.Path.{_≡_, sym, _∙_}
 use denote.Ref.{now}
 use Rattle.text.specs.Unique.{OneAnswer, OneContent}
@@ -9,6 +10,11 @@ use Rattle.text.proofs.input.Input.next.Reads as next
 use Rattle.text.proofs.input.is_end.Reads as is-end
 use Rattle.text.proofs.input.line.Reads as line
 use Rattle.text.proofs.input.advance.Reads as advance
+use Rattle.text.proofs.comments.is_skipped.Reads as is-skipped
+use Rattle.text.proofs.comments.in_comment.Reads as in-comment
+use Rattle.text.proofs.window.Window.new.Reads as new-window
+use Rattle.text.proofs.window.Window.past.Reads as past
+use Rattle.text.proofs.window.bytes.Reads as window-bytes
 use Rattle.text.proofs.words.word_at.Reads as word-at
 use Rattle.text.proofs.words.done.Reads as done
 use Rattle.text.proofs.words.is.Reads as is
@@ -51,6 +57,21 @@ line-unique l input a b s t = same
 
 advance-index-unique : OneAnswer (λ l a. a .to) advance.Post
 advance-index-unique l input a b s t p q = same (p .1) (q .1)
+
+is-skipped-unique : OneAnswer (λ l a. a) is-skipped.Post
+is-skipped-unique l input a b s t = same
+
+in-comment-unique : OneAnswer (λ l a. a) in-comment.Post
+in-comment-unique l input a b s t = same
+
+new-window-unique : OneAnswer (λ l a. a) new-window.Post
+new-window-unique l input a b s t = same
+
+past-unique : OneAnswer (λ l a. a) past.Post
+past-unique l input a b s t = same
+
+window-bytes-unique : OneAnswer (λ l a. now a) window-bytes.Post
+window-bytes-unique l input a b s t = same
 
 word-at-unique : OneAnswer (λ l a. a) word-at.Post
 word-at-unique l input a b s t p q = same (p .0) (q .0)

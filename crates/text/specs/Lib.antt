@@ -1,5 +1,7 @@
 pub mod Buffer
 pub mod Input
+pub mod Comments
+pub mod Window
 pub mod Words
 pub mod Numbers
 pub mod Payloads

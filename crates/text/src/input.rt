@@ -200,7 +200,7 @@ fn kept(from: usize, to: usize, over: bool) -> usize
 }
 
 // Moves n bytes from index from on to the front.
-fn shift(buf: &mut [u8], from: usize, n: usize)
+pub(crate) fn shift(buf: &mut [u8], from: usize, n: usize)
     requires { ⌜ from + n ≤ length (now buf) ⌝ }
     ensures { λ _. ⌜ take n (now (buf .exit)) ≡ take n (drop from (now (buf .entry))) ⌝ }
 {
@@ -212,7 +212,7 @@ fn shift(buf: &mut [u8], from: usize, n: usize)
 }
 
 // Reads once, from index at on, and answers how many bytes came.
-fn fill(buf: &mut [u8], at: usize) -> usize
+pub(crate) fn fill(buf: &mut [u8], at: usize) -> usize
     requires { ⌜ at ≤ length (now buf) ⌝ }
     ensures { λ r. ⌜ at + r ≤ length (now (buf .entry)) ⌝ }
     ensures { λ _. ⌜ take at (now (buf .exit)) ≡ take at (now (buf .entry)) ⌝ }

@@ -3,10 +3,12 @@
 //
 // Only `input::advance` reads and only `input::advance` and `output` print, which no contract can speak of. Of all else a
 // function's contract says everything that it answers and writes.
+pub mod comments;
 pub mod input;
 pub mod numbers;
 pub mod output;
 pub mod payloads;
+pub mod window;
 pub mod words;
 
 ghost use Prim.Native.Nat.{_-_, min};

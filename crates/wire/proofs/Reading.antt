@@ -100,18 +100,18 @@ within bytes at r e ok =
 
 -- ── what was written is read ──
 -- the bytes behind some others are found as far behind them
-behind : (before bytes : List ℕ) (i : ℕ) → getD (before ++ bytes) (i + length before) 0 ≡ getD bytes i 0
+pub behind : (before bytes : List ℕ) (i : ℕ) → getD (before ++ bytes) (i + length before) 0 ≡ getD bytes i 0
 behind before bytes i =
     let e : i + length before ≡ length before + i = omega arith in
     rw e (getD-append-add before bytes i 0)
 
-number-behind : (k : ℕ) (before bytes : List ℕ) (i : ℕ) → numberAt k (before ++ bytes) (i + length before) ≡ numberAt k bytes i
+pub number-behind : (k : ℕ) (before bytes : List ℕ) (i : ℕ) → numberAt k (before ++ bytes) (i + length before) ≡ numberAt k bytes i
 number-behind zero before bytes i = refl
 number-behind (suc k) before bytes i =
     let e : suc (i + length before) ≡ suc i + length before = omega arith in
     rw (behind before bytes i, e, number-behind k before bytes (suc i))
 
-number-here : (k : ℕ) (before bytes : List ℕ) → numberAt k (before ++ bytes) (length before) ≡ numberAt k bytes 0
+pub number-here : (k : ℕ) (before bytes : List ℕ) → numberAt k (before ++ bytes) (length before) ≡ numberAt k bytes 0
 number-here k before bytes = ap (numberAt k (before ++ bytes)) (sym (zero-add (length before))) ∙ number-behind k before bytes 0
 
 module _ (before payload rest : List ℕ) (s : Stream) (small : s .0 < 4294967296) (short : length payload ≤ maxPayload) where

@@ -4,13 +4,14 @@ use Rattle.sheet.proofs.main.Statement.{statement}
 use Rattle.sheet.proofs.main.Tie as tie
 
 abbrev Inv-loop : tie.InvT-loop
-Inv-loop buf₀ out₀ input₀ to₀ turns₀ buf out input to turns = Unit {0}
+Inv-loop buf₀ out₀ input₀ comment₀ to₀ turns₀ buf out input comment to turns = Unit {0}
 
 abbrev μ-loop : tie.MeasureT-loop
-μ-loop buf₀ out₀ input₀ to₀ turns₀ buf out input to turns = turns
+μ-loop buf₀ out₀ input₀ comment₀ to₀ turns₀ buf out input comment to turns = turns
 
 pub main-spec : {M : Type 1} → statement M
 main-spec =
     tie.close
     (tie.spec Inv-loop μ-loop (λ c κs. search needs) (λ c. search needs) (λ c. search needs) (λ c κs. search needs) (λ c κs. search needs)
-    (λ c κs. search needs) (λ c κs. search needs) (λ c κs. search needs) (λ c. search needs) (λ c. search needs) (λ c. search needs) (λ c. search needs))
+    (λ c κs. search needs) (λ c κs. search needs) (λ c κs. search needs) (λ c κs. search needs) (λ c. search needs) (λ c. search needs)
+    (λ c. search needs) (λ c. search needs))

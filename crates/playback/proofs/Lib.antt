@@ -1,0 +1,6 @@
+-- What is shown of the replay.
+pub mod Ways
+pub mod Stretches
+pub mod Deliveries
+pub mod Held
+pub mod Holding

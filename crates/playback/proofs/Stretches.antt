@@ -1,0 +1,135 @@
+-- A node stays as it is, but for its counter, for as long as `quiet` says, and no longer.
+use mathlib.Core.Path.{_≡_, refl, sym, ap, _∙_}
+use mathlib.Core.Bool.{Bool, true, false, cond, not, _&&_}
+use mathlib.Core.Logic.{_⊎_, inl, inr}
+use mathlib.Core.List.{List, [], _∷_, _++_, map}
+use Prim.Native.Nat.{ℕ, zero, suc, _+_, _-_, _%_, _≤_, _<_, min}
+use native.Mathlib.Nat.{add-zero}
+use native.Mathlib.Omega.{arith}
+use borrow.Author.Tests.{eqb-true, eqb-false}
+use lib.ListN.{length, replicate}
+use Rattle.wire.specs.Settings.{sends, isTwoMessage}
+use Rattle.node.specs.declared.slots.Slot.{Slot}
+use Rattle.node.specs.declared.Node.{Node}
+use Rattle.node.specs.Slots.{some}
+use Rattle.node.specs.Nodes.{Outcome, done}
+use Rattle.node.specs.Tick.{lapsed, late, due, holdOver, holdLength, ageOf, tickSlot, dueSlots, recordsFrom, tick}
+use Rattle.node.specs.Selection.{mayStir, stirs}
+use Rattle.node.specs.Clock.{Clock, period, unbounded, rolled}
+use Rattle.node.specs.Calls.{Call, outcome, afterFrom, Answer, answerOf, answersFrom}
+use Rattle.node.specs.Reachable.{longest, KeptSlot, All, Kept}
+use Rattle.node.proofs.Choices.{contrary}
+use Rattle.node.proofs.slots.Table.{all-weaken}
+use Rattle.node.proofs.tick.Cases.{tick-cases}
+use Rattle.node.proofs.tick.Loops.{stirsAt, still-tick}
+use Rattle.node.proofs.tick.Stirring.{stirs-sender, stirs-waiting, stirs-ready, young-is-not-late, young-is-not-due, young-is-held-on, young-is-still}
+use Rattle.playback.specs.Deliveries.{room}
+use Rattle.playback.specs.Quiet.{withSlot, quietIn, quiet, standing, ticks, silent, NothingButCounts, JumpIsTicking, RolledJumpIsTicking}
+use Rattle.playback.specs.Quiet.{QuietWithoutEnd, heldIn, NoLongerQuiet}
+
+-- ── a slot ──
+-- what is no older than it gets at the longest is not changed
+young-is-quiet : (age : ℕ) (x : Slot) → age ≤ longest (x .settings) (x .message) → stirs age x ≡ false
+young-is-quiet age x young = go (sends (x .settings)) (isTwoMessage (x .settings) && not (x .message .confirmed)) refl refl young
+  where
+    go : (own waits : Bool) → sends (x .settings) ≡ own → isTwoMessage (x .settings) && not (x .message .confirmed) ≡ waits
+        → age ≤ cond own (holdLength (x .settings)) (cond waits (x .settings .dc) (x .settings .dd)) → stirs age x ≡ false
+    go true waits e f h = sym (stirs-sender age x (eqb-true _ _ e)) ∙ sym (young-is-held-on age x h)
+    go false true e f h = sym (stirs-waiting age x (eqb-false _ _ e) f) ∙ sym (young-is-not-late age x h)
+    go false false e f h = sym (stirs-ready age x (eqb-false _ _ e) f) ∙ sym (young-is-not-due age x h)
+
+unheld-is-quiet : (age : ℕ) (x : Slot) → x .message .held ≡ false → stirs age x ≡ false
+unfolding mayStir
+unheld-is-quiet age x h = young-is-still age x (rw h)
+
+-- ── a stretch ──
+module _ (clock : Clock) where
+  -- for so many ticks the slot's message does not get older than it gets at the longest
+  abbrev Stays : (now k : ℕ) → Slot → Type 0
+  Stays now k x = x .message .held ≡ true → k + ageOf clock now x ≤ longest (x .settings) (x .message)
+
+  as-told : (now others k : ℕ) (x : Slot) → suc k ≤ withSlot clock now x others → (suc k ≤ others) × Stays now (suc k) x
+  unfolding withSlot
+  as-told now others k x = go (x .message .held) refl
+    where
+      go : (held : Bool) → x .message .held ≡ held
+          → suc k ≤ cond held (min (longest (x .settings) (x .message) - ageOf clock now x) others) others → (suc k ≤ others) × Stays now (suc k) x
+      go true e h = (omega arith, λ _. omega arith)
+      go false e h = (h, λ f. contrary f e)
+
+  all-as-told : (now most k : ℕ) (xs : List Slot) → suc k ≤ quietIn clock now most xs → All (Stays now (suc k)) xs
+  unfolding quietIn
+  all-as-told now most k [] h = tt
+  all-as-told now most k (x ∷ xs) h =
+      let (others, here) = as-told now (quietIn clock now most xs) k x h in (here, all-as-told now most k xs others)
+
+  -- the node's count after so many ticks
+  abbrev advanced : (k now : ℕ) → ℕ
+  advanced zero now = now
+  advanced (suc k) now = advanced k (clock .next now)
+
+  -- a tick makes nothing older by more than one
+  module _ (steady : (now stamp : ℕ) → clock .age (clock .next now) stamp ≤ clock .age now stamp + 1) where
+    quiet-slot : (now k : ℕ) (x : Slot) → Stays now (suc k) x → stirsAt clock (clock .next now) x ≡ false
+    quiet-slot now k x stays = go (x .message .held) refl
+      where
+        go : (held : Bool) → x .message .held ≡ held → stirsAt clock (clock .next now) x ≡ false
+        go true e = young-is-quiet _ x (omega (arith, steady now (x .message .stamp), stays e))
+        go false e = unheld-is-quiet _ x e
+
+    none-stirs : (now k : ℕ) (xs : List Slot) → All (Stays now (suc k)) xs → some (stirsAt clock (clock .next now)) xs ≡ false
+    unfolding some
+    none-stirs now k [] all = refl
+    none-stirs now k (x ∷ xs) (here, others) = rw (quiet-slot now k x here, none-stirs now k xs others)
+
+    -- one tick
+    quiet-tick : (k : ℕ) (n : Node) → All (Stays (n .counter) (suc k)) (n .slots)
+        → outcome clock (Call.tick room) n ≡ done (standing (clock .next (n .counter)) n) []
+    unfolding recordsFrom
+    quiet-tick k n all =
+        let (same, none) = still-tick clock (clock .next (n .counter)) (n .slots) (none-stirs (n .counter) k (n .slots) all) in
+        tick-cases room clock n .accepted-if (record { room = omega arith }) ∙ rw (same, none)
+
+    goes-on : (now k : ℕ) (xs : List Slot) → All (Stays now (suc k)) xs → All (Stays (clock .next now) k) xs
+    goes-on now k xs all =
+        all-weaken (Stays now (suc k)) (Stays (clock .next now) k) (λ x stays held. omega (arith, steady now (x .message .stamp), stays held)) xs all
+
+    quiet-ticks : (k : ℕ) (n : Node) → All (Stays (n .counter) k) (n .slots) → NothingButCounts clock k n (advanced k (n .counter))
+    quiet-ticks zero n all = (refl, refl)
+    quiet-ticks (suc k) n all =
+        let (node, answers) = quiet-ticks k (standing (clock .next (n .counter)) n) (goes-on (n .counter) k (n .slots) all) in
+        let one = quiet-tick k n all in
+        (
+          ap (λ (o : Outcome). afterFrom clock (o .node) (ticks k)) one ∙ node,
+          ap (λ (o : Outcome). answerOf o ∷ answersFrom clock (o .node) (ticks k)) one ∙ ap (λ (l : List Answer). silent ∷ l) answers,
+        )
+
+-- ── with counts without bound, and with the counter that rolls over ──
+advanced-unbounded : (k now : ℕ) → advanced unbounded k now ≡ now + k
+advanced-unbounded zero now = omega arith
+advanced-unbounded (suc k) now = advanced-unbounded k (now + 1) ∙ omega arith
+
+advanced-rolled : (k now : ℕ) → now < period → advanced rolled k now ≡ (now + k) % period
+advanced-rolled zero now low = omega arith
+advanced-rolled (suc k) now low = advanced-rolled k ((now + 1) % period) (omega arith) ∙ omega arith
+
+pub jump-is-ticking : JumpIsTicking
+jump-is-ticking most zero n h = (rw (add-zero (n .counter)), refl)
+jump-is-ticking most (suc k) n h =
+    rw (← (advanced-unbounded (suc k) (n .counter)))
+    (quiet-ticks unbounded (λ now stamp. omega arith) (suc k) n (all-as-told unbounded (n .counter) most k (n .slots) h))
+
+pub rolled-jump-is-ticking : RolledJumpIsTicking
+rolled-jump-is-ticking most zero n low h = let same : (n .counter + 0) % period ≡ n .counter = omega arith in (rw same, refl)
+rolled-jump-is-ticking most (suc k) n low h =
+    rw (← (advanced-rolled (suc k) (n .counter) low))
+    (quiet-ticks rolled (λ now stamp. omega arith) (suc k) n (all-as-told rolled (n .counter) most k (n .slots) h))
+
+-- ── without end ──
+pub quiet-without-end : QuietWithoutEnd
+unfolding quietIn withSlot
+quiet-without-end clock most n none = go (n .slots) none
+  where
+    go : (xs : List Slot) → All (λ x. x .message .held ≡ false) xs → quietIn clock (n .counter) most xs ≡ most
+    go [] none = refl
+    go (x ∷ xs) (here, others) = rw here (go xs others)

@@ -1,0 +1,2 @@
+-- Worked replays.
+use Prim.Native.Nat.{ℕ}
