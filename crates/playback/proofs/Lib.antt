@@ -4,3 +4,6 @@ pub mod Stretches
 pub mod Deliveries
 pub mod Held
 pub mod Holding
+pub mod StepCases
+pub mod Following
+pub mod Steps

@@ -104,6 +104,19 @@ module _ (clock : Clock) where
           ap (λ (o : Outcome). answerOf o ∷ answersFrom clock (o .node) (ticks k)) one ∙ ap (λ (l : List Answer). silent ∷ l) answers,
         )
 
+-- so many at most
+pub quiet-at-most : (clock : Clock) (most : ℕ) (n : Node) → quiet clock most n ≤ most
+unfolding quietIn withSlot
+quiet-at-most clock most n = go (n .slots)
+  where
+    one : (held : Bool) (mine others : ℕ) → others ≤ most → cond held (min mine others) others ≤ most
+    one true mine others h = omega arith
+    one false mine others h = h
+
+    go : (xs : List Slot) → quietIn clock (n .counter) most xs ≤ most
+    go [] = omega arith
+    go (x ∷ xs) = one (x .message .held) _ (quietIn clock (n .counter) most xs) (go xs)
+
 -- ── with counts without bound, and with the counter that rolls over ──
 advanced-unbounded : (k now : ℕ) → advanced unbounded k now ≡ now + k
 advanced-unbounded zero now = omega arith
