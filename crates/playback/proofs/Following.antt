@@ -40,7 +40,6 @@ use Rattle.playback.proofs.Deliveries.{jump-delivers-nothing, gap-in-64
 use Rattle.playback.proofs.Held.{ticked-slots, fewer-held, heard-held}
 use Rattle.playback.proofs.Holding.{Holds, quiet-rolls, tick-room, hear-room, jump-holds, call-holds}
 
-
 -- ── reading on ──
 -- a record is read here: what is left are this record and those behind it
 record Goes (recording : List ℕ) (at : ℕ) (rest : Recording) : Type 0 where
@@ -97,12 +96,13 @@ pub record Went (recording : List ℕ) (at : ℕ) (u : Node) (rest : Recording) 
   pub later : Recording
   pub reads : ReadBy recording (at + s .took) later
   pub same : replayOn u rest ≡ ahead (deliveriesIn (to .counter) (s .bytes)) (replayOn to later)
+  pub inside : at + s .took ≤ length recording
   pub nearer : counted (s .way) + (heldIn (to .slots) + (length recording - (at + s .took))) ≤ heldIn (u .slots) + (length recording - at)
 
 module _ (recording : List ℕ) (at : ℕ) (u : Node) (p : Playback) (holds : Holds u at p) (rest : Recording) (reads : ReadBy recording at rest) where
   -- more is asked for, and nothing was done
-  pub asked : (s : Step) → s .playback ≡ p → s .took ≡ 0 → s .bytes ≡ [] → counted (s .way) ≡ 0 → Went recording at u rest s
-  asked s same none silent uncounted =
+  pub asked : at ≤ length recording → (s : Step) → s .playback ≡ p → s .took ≡ 0 → s .bytes ≡ [] → counted (s .way) ≡ 0 → Went recording at u rest s
+  asked within-it s same none silent uncounted =
       let here : at + s .took ≡ at = omega arith in
       record {
         to = u;
@@ -110,6 +110,7 @@ module _ (recording : List ℕ) (at : ℕ) (u : Node) (p : Playback) (holds : Ho
         later = rest;
         reads = rw here reads;
         same = rw silent refl;
+        inside = omega arith;
         nearer = omega (arith, uncounted);
       }
 
@@ -204,6 +205,7 @@ module _ (recording : List ℕ) (at : ℕ) (u : Node) (p : Playback) (holds : Ho
                 same = rw rest-is
                     (ap (λ (ds : List Delivery). record { deliveries = ds; reply = replayOn u (on .later) .reply; offset = replayOn u (on .later) .offset })
                     (tick-delivers heard-record (on .later .records) refl));
+                inside = omega (arith, what-is-left l);
                 nearer = omega (arith, fewer-held gap u output (holds .kept) before long);
               }
 
@@ -266,5 +268,6 @@ module _ (recording : List ℕ) (at : ℕ) (u : Node) (p : Playback) (holds : Ho
                 same = ap (replayOn u) rest-is
                     ∙ ap (λ (ds : List Delivery). record { deliveries = ds; reply = replayOn u (on .later) .reply; offset = replayOn u (on .later) .offset })
                     (hear-delivers (on .later .records));
+                inside = taken-bytes .1;
                 nearer = omega (arith, held .0, taken-bytes .0, taken-bytes .1);
               }

@@ -7,3 +7,4 @@ pub mod Holding
 pub mod StepCases
 pub mod Following
 pub mod Steps
+pub mod Runs

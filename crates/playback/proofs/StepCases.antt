@@ -5,7 +5,7 @@ use mathlib.Core.Logic.{_≢_, _⊎_, inl, inr}
 use mathlib.Core.List.{List}
 use Prim.Native.Nat.{ℕ, zero, suc, _≤_, _<_}
 use native.Mathlib.Omega.{arith}
-use borrow.Author.Tests.{eqb-true, eqb-false, eq-eqb, ltb-true, ltb-false}
+use borrow.Author.Tests.{eqb-true, eqb-false, eq-eqb, ltb-true, ltb-false, not-true}
 use lib.ListN.{length}
 use lib.Dec.{eqb, ltb}
 use Rattle.heard.specs.declared.reading.HeardAt.{HeardAt}
@@ -13,6 +13,7 @@ use Rattle.heard.specs.declared.reply.Reply.the-variants.{Done, ShortOutput, Cu
 use Rattle.heard.specs.Replies.{numberOf}
 use Rattle.heard.specs.Reading.{heardAt}
 use Rattle.heard.proofs.Ways.{no-head}
+use Rattle.heard.proofs.Replies.{numbers-distinct}
 use Rattle.node.specs.Tick.{tickRoom}
 use Rattle.node.specs.Clock.{rolled}
 use Rattle.playback.specs.declared.Playback.{Playback}
@@ -34,8 +35,8 @@ module _ (window : List ℕ) (ended : Bool) (output : List ℕ) (p : Playback) w
 
   pub data Case : Step → Type 0 where
     all-done : ended ≡ true → length window ≡ 0 → Case (stopped Over Done 0 p)
-    wants-bytes : Case (stopped MoreBytes Done 0 p)
-    wants-room : Case (stopped MoreRoom ShortOutput 0 p)
+    wants-bytes : read .reply ≡ CutRecord → ended ≡ false → Case (stopped MoreBytes Done 0 p)
+    wants-room : length output < tickRoom → Case (stopped MoreRoom ShortOutput 0 p)
     faulty : read .ok ≡ false → (read .reply ≢ CutRecord) ⊎ (ended ≡ true) → 0 < length window → Case (stopped Over (read .reply) (p .taken) p)
     ticked : read .ok ≡ true → tickRoom ≤ length output → still < gap → Case (tickStep output (jumped still p))
     heard : read .ok ≡ true → tickRoom ≤ length output → gap ≤ still → Case (hearStep read window output (jumped still p))
@@ -45,6 +46,9 @@ module _ (window : List ℕ) (ended : Bool) (output : List ℕ) (p : Playback) w
 
   not-cut : eqb (numberOf (read .reply)) (numberOf CutRecord) ≡ false → read .reply ≢ CutRecord
   not-cut e cut = eqb-false (numberOf (read .reply)) (numberOf CutRecord) e (ap numberOf cut)
+
+  is-cut : eqb (numberOf (read .reply)) (numberOf CutRecord) ≡ true → read .reply ≡ CutRecord
+  is-cut e = numbers-distinct (read .reply) CutRecord (eqb-true _ _ e)
 
   why : (cut end : Bool) → eqb (numberOf (read .reply)) (numberOf CutRecord) ≡ cut → ended ≡ end → cut && not end ≡ false
       → (read .reply ≢ CutRecord) ⊎ (ended ≡ true)
@@ -81,12 +85,15 @@ module _ (window : List ℕ) (ended : Bool) (output : List ℕ) (p : Playback) w
           is (ways.to-the-record window ended output p more read refl ok long gap still refl refl _ refl beyond) (heard ok long beyond)
 
       by-room : ended && eqb (length window) 0 ≡ false → read .ok ≡ true → (t : Bool) → ltb (length output) tickRoom ≡ t → Case s
-      by-room more ok true t = is (ways.no-room window ended output p more read refl ok (ltb-true (length output) tickRoom t)) wants-room
+      by-room more ok true t = is (ways.no-room window ended output p more read refl ok (ltb-true (length output) tickRoom t))
+          (wants-room (ltb-true (length output) tickRoom t))
       by-room more ok false t = by-quiet more ok (ltb-false (length output) tickRoom t) (ltb still gap) refl
 
       by-fault : ended && eqb (length window) 0 ≡ false → read .ok ≡ false → (t : Bool) → eqb (numberOf (read .reply)) (numberOf CutRecord) && not ended ≡ t → Case s
       by-fault more bad true t =
-          is (ways.not-read window ended output p more read refl bad ∙ sym (ways.more-may-follow p (read .reply) ended _ _ refl refl t)) wants-bytes
+          let both = and-eq-true-iff (eqb (numberOf (read .reply)) (numberOf CutRecord)) (not ended) .0 t in
+          is (ways.not-read window ended output p more read refl bad ∙ sym (ways.more-may-follow p (read .reply) ended _ _ refl refl t))
+          (wants-bytes (is-cut (both .0)) (not-true ended (both .1)))
       by-fault more bad false t =
           is (ways.not-read window ended output p more read refl bad ∙ sym (ways.no-more-follows p (read .reply) ended _ _ refl refl t))
           (faulty bad (why _ _ refl refl t) (some-bytes more t))

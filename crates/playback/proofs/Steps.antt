@@ -33,12 +33,12 @@ use Rattle.playback.proofs.Holding.{Holds}
 use Rattle.playback.proofs.Following.{Went, asked, same-gap, same-still, in-the-window, what-is-left, tick-went, hear-went}
 
 -- what cannot be read has another reply than Done, and is where it was looked for
-unread : (window : List ℕ) → heardAt window 0 .ok ≡ false → (eqb (numberOf (heardAt window 0 .reply)) 0 ≡ false) × (heardAt window 0 .next ≡ 0)
+pub unread : (bytes : List ℕ) (at : ℕ) → heardAt bytes at .ok ≡ false → (eqb (numberOf (heardAt bytes at .reply)) 0 ≡ false) × (heardAt bytes at .next ≡ at)
 unfolding heardAt
-unread window = go (isCut window 0) (isKnown (kindAt window 0)) (badLength (kindAt window 0) (following window 0))
+unread bytes at = go (isCut bytes at) (isKnown (kindAt bytes at)) (badLength (kindAt bytes at) (following bytes at))
   where
-    go : (cut known bad : Bool) → answerBy window 0 cut known bad .ok ≡ false
-        → (eqb (numberOf (answerBy window 0 cut known bad .reply)) 0 ≡ false) × (answerBy window 0 cut known bad .next ≡ 0)
+    go : (cut known bad : Bool) → answerBy bytes at cut known bad .ok ≡ false
+        → (eqb (numberOf (answerBy bytes at cut known bad .reply)) 0 ≡ false) × (answerBy bytes at cut known bad .next ≡ at)
     go true known bad h = (refl, refl)
     go false false bad h = (refl, refl)
     go false true true h = (refl, refl)
@@ -55,8 +55,8 @@ module _ {recording : List ℕ} {at : ℕ} (l : Lent recording at) (u : Node) (p
   went-so : {s : Step} → Cases s → isOver (s .way) ≡ false → Went recording at u rest s
   went-so (all-done ended none) h = absurd (true≢false h)
   went-so (faulty bad tells some) h = absurd (true≢false h)
-  went-so wants-bytes h = asked recording at u p holds rest reads _ refl refl refl refl
-  went-so wants-room h = asked recording at u p holds rest reads _ refl refl refl refl
+  went-so (wants-bytes cut not-ended) h = asked recording at u p holds rest reads (omega (arith, what-is-left l)) _ refl refl refl refl
+  went-so (wants-room short) h = asked recording at u p holds rest reads (omega (arith, what-is-left l)) _ refl refl refl refl
   went-so (ticked ok long before) h =
       let g = same-gap recording at u p holds rest reads l ok long in
       let k = same-still recording at u p holds rest reads l ok long in
@@ -93,7 +93,7 @@ module _ {recording : List ℕ} {at : ℕ} (l : Lent recording at) (u : Node) (p
     fault-so : 0 < length (l .window) → {rest : Recording} → ReadBy recording at rest → Ends (stopped Over (heardAt (l .window) 0 .reply) (p .taken) p) rest
     fault-so some (at-end past) = absurd (omega (arith, past, what-is-left l))
     fault-so some (at-fault r inside e bad') =
-        let not-done = unread (l .window) bad in
+        let not-done = unread (l .window) 0 bad in
         let here : 0 + at ≡ at = zero-add at in
         rw (e, answer, not-done .0, not-done .1, here, holds .taken)
     fault-so some (one-read r inside e ok later) =
@@ -103,8 +103,8 @@ module _ {recording : List ℕ} {at : ℕ} (l : Lent recording at) (u : Node) (p
   unfolding tickStep hearStep
   ends-so (all-done ended none) h = done-so ended none reads
   ends-so (faulty bad tells some) h = fault-so bad tells some reads
-  ends-so wants-bytes h = absurd (false≢true h)
-  ends-so wants-room h = absurd (false≢true h)
+  ends-so (wants-bytes cut not-ended) h = absurd (false≢true h)
+  ends-so (wants-room short) h = absurd (false≢true h)
   ends-so (ticked ok long before) h = absurd (false≢true h)
   ends-so (heard ok long beyond) h = absurd (false≢true h)
 

@@ -98,8 +98,7 @@ module _ (clock : Clock) where
     quiet-ticks zero n all = (refl, refl)
     quiet-ticks (suc k) n all =
         let (node, answers) = quiet-ticks k (standing (clock .next (n .counter)) n) (goes-on (n .counter) k (n .slots) all) in
-        let one = quiet-tick k n all in
-        (
+        let one = quiet-tick k n all in (
           ap (λ (o : Outcome). afterFrom clock (o .node) (ticks k)) one ∙ node,
           ap (λ (o : Outcome). answerOf o ∷ answersFrom clock (o .node) (ticks k)) one ∙ ap (λ (l : List Answer). silent ∷ l) answers,
         )

@@ -117,7 +117,7 @@ Ends =
 abbrev pub Fed : Type 0
 Fed =
     (recording : List ℕ) (at : ℕ) (l : Lent recording at) (p : Playback) (r : Stepped) (left : List ℕ) → Promised l p r left
-    → AreBytes (l .window) → tickRoom ≤ length (l .output) → (l .ended ≡ true) ⊎ (mostAsked ≤ length (l .window)) → (r .way ≡ On) ⊎ (r .way ≡ Over)
+    → tickRoom ≤ length (l .output) → (l .ended ≡ true) ⊎ (AreBytes (l .window) × (mostAsked ≤ length (l .window))) → (r .way ≡ On) ⊎ (r .way ≡ Over)
 
 -- so a whole run there is
 abbrev pub SomeRun : Type 0
