@@ -8,3 +8,4 @@ pub mod StepCases
 pub mod Following
 pub mod Steps
 pub mod Runs
+pub mod SomeRuns

@@ -64,7 +64,7 @@ module _ (s : Stream) (x : Settings) (u : Node) (at : ℕ) (p : Playback) (holds
         held = set-up-held s x u .0;
       })
 
-prepares-as : {p q : Playback} {settings : List (Stream × Settings)} {reply : node-reply.Reply} → Prepares p settings reply q
+pub prepares-as : {p q : Playback} {settings : List (Stream × Settings)} {reply : node-reply.Reply} → Prepares p settings reply q
     → (u : Node) (at : ℕ) → Holds u at p → SetUpAs (setUpAll settings u) u at reply q
 prepares-as all-set-up u at holds = record { replied = refl; holds = holds; counter = refl; held = omega arith }
 prepares-as (refused {p} {s} {x} {rest} r e bad) u at holds =
@@ -139,7 +139,7 @@ module _ (recording : List ℕ) where
       }
 
 -- ── EVERY REPLAY ──
-fresh-holds : Holds fresh 0 freshPlayback
+pub fresh-holds : Holds fresh 0 freshPlayback
 fresh-holds = record { kept = kept-fresh; node = refl; ticks = refl; taken = refl }
 
 module _ {settings : List (Stream × Settings)} {reply : node-reply.Reply} {p : Playback} (set-up : Prepares freshPlayback settings reply p) where
