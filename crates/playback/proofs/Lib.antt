@@ -9,3 +9,4 @@ pub mod Following
 pub mod Steps
 pub mod Runs
 pub mod SomeRuns
+pub mod Exact

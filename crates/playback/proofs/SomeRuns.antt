@@ -179,6 +179,6 @@ some-run settings recording = by (eqb (of-node.numberOf (set .reply)) 0) refl
     by true e =
         let begun = prepares-as (set .set-up) fresh 0 fresh-holds in
         let rest =
-            to-the-end recording (heldIn (setUpAll settings fresh .node .slots) + length recording) (setUpAll settings fresh .node) (set .q) 0 (begun .holds)
-            (omega arith) (recordingIn recording) (every-recording-is-read recording) (omega arith) in
+        to-the-end recording (heldIn (setUpAll settings fresh .node .slots) + length recording) (setUpAll settings fresh .node) (set .q) 0 (begun .holds)
+        (omega arith) (recordingIn recording) (every-recording-is-read recording) (omega arith) in
         so (ended (set .set-up) e (rest .steps) (rest .lent) (rest .r) (rest .left) (rest .promised) (rest .is-over))
