@@ -33,6 +33,7 @@ use Rattle.playback.specs.Steps.{in64}
 use Rattle.playback.specs.Runs.{replayedIn64, Exact}
 use Rattle.playback.proofs.Held.{ticked-slots, heard-held, set-up-held}
 use Rattle.playback.proofs.Steps.{unread}
+use Rattle.playback.proofs.Runs.{delivery64}
 
 -- ── no delivery is later than this ──
 abbrev UpTo : (most : ℕ) → List Delivery → Type 0
@@ -109,9 +110,6 @@ set-up-counter ((s, x) ∷ rest) n =
     let o = setUp s x n in
     let here = set-up-held s x n .1 in
     either-way (λ (q : Outcome). q .node .counter) (eqb (of-node.numberOf (o .reply)) 0) (set-up-counter rest (o .node) ∙ here) here
-
-abbrev delivery64 : Delivery → Delivery
-delivery64 d = record { tick = in64 (d .tick); stream = d .stream; payload = d .payload }
 
 same-deliveries : (most : ℕ) → most < 18446744073709551616 → (ds : List Delivery) → UpTo most ds → map delivery64 ds ≡ ds
 same-deliveries most small [] us = refl

@@ -10,3 +10,6 @@ pub mod Steps
 pub mod Runs
 pub mod SomeRuns
 pub mod Exact
+pub mod Promises
+pub mod Unique
+pub mod WorkedReplays

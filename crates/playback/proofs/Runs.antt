@@ -84,8 +84,11 @@ prepares-as (next {p} {s = s} {x = x} r e ok more) u at holds =
     })
 
 -- ── the steps ──
-abbrev delivery64 : Delivery → Delivery
+abbrev pub delivery64 : Delivery → Delivery
 delivery64 d = record { tick = in64 (d .tick); stream = d .stream; payload = d .payload }
+
+pub deliveries-in-64 : (tick : ℕ) (bytes : List ℕ) → deliveriesIn (in64 tick) bytes ≡ map delivery64 (deliveriesIn tick bytes)
+deliveries-in-64 tick bytes = sym (map-map delivery64 (deliveredAt tick) (messagesAt (length bytes) bytes 0))
 
 -- what the caller sees
 seen-so : {recording : List ℕ} {at : ℕ} (l : Lent recording at) (p : Playback) (r : Stepped) (left : List ℕ) (tick : ℕ) → Promised l p r left
@@ -93,11 +96,10 @@ seen-so : {recording : List ℕ} {at : ℕ} (l : Lent recording at) (p : Playbac
     → seen r left ≡ map delivery64 (deliveriesIn tick (step (l .window) (l .ended) (l .output) p .bytes))
 seen-so l p r left tick (e, f) t =
     let s = step (l .window) (l .ended) (l .output) p in
-    rw (e, f, take-append-seam (s .bytes) (drop (length (s .bytes)) (l .output)), t)
-    (sym (map-map delivery64 (deliveredAt tick) (messagesAt (length (s .bytes)) (s .bytes) 0)))
+    rw (e, f, take-append-seam (s .bytes) (drop (length (s .bytes)) (l .output)), t) (deliveries-in-64 tick (s .bytes))
 
 -- what one step delivers, and what those after it do
-joined : (a b c : Replayed) (ds xs first : List Delivery) → a ≡ ahead ds b → first ≡ map delivery64 ds → replayedIn64 b ≡ ahead xs c
+pub joined : (a b c : Replayed) (ds xs first : List Delivery) → a ≡ ahead ds b → first ≡ map delivery64 ds → replayedIn64 b ≡ ahead xs c
     → replayedIn64 a ≡ ahead (first ++ xs) c
 joined a b c ds xs first e f g =
     let with-deliveries : List Delivery → Replayed = λ l. record { deliveries = l; reply = b .reply; offset = in64 (b .offset) } in

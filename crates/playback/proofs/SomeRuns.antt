@@ -60,7 +60,7 @@ fed recording at l p r left promised long enough =
 
 -- ── all that is left, lent at once ──
 module _ (recording : List ℕ) where
-  abbrev all-left : (at : ℕ) → at ≤ length recording → Lent recording at
+  abbrev pub all-left : (at : ℕ) → at ≤ length recording → Lent recording at
   all-left at inside =
       record {
         window = drop at recording;
@@ -120,7 +120,7 @@ module _ (recording : List ℕ) where
           is-over = is-over;
         }
 
-    went-on : isOver (s .way) ≡ false → counted (s .way) ≡ 1
+    pub went-on : isOver (s .way) ≡ false → counted (s .way) ≡ 1
     went-on not-over = by (not-asked (drop at recording) true room p (omega arith) (inl refl) (step-case (drop at recording) true room p))
       where
         by : (s .way ≡ On) ⊎ (s .way ≡ Over) → counted (s .way) ≡ 1
@@ -148,12 +148,12 @@ module _ (recording : List ℕ) where
       (omega (arith, w .nearer, went-on p at inside not-over)))
 
 -- ── the settings ──
-record SomeSettings (p : Playback) (settings : List (Stream × Settings)) : Type 0 where
-  reply : node-reply.Reply
-  q : Playback
-  set-up : Prepares p settings reply q
+pub record SomeSettings (p : Playback) (settings : List (Stream × Settings)) : Type 0 where
+  pub reply : node-reply.Reply
+  pub q : Playback
+  pub set-up : Prepares p settings reply q
 
-some-settings : (settings : List (Stream × Settings)) (p : Playback) → SomeSettings p settings
+pub some-settings : (settings : List (Stream × Settings)) (p : Playback) → SomeSettings p settings
 some-settings [] p = record { reply = node-reply.the-variants.Done; q = p; set-up = all-set-up }
 some-settings ((s, x) ∷ rest) p = by (some-settings rest (r .playback)) (eqb (of-node.numberOf (r .reply)) 0) refl
   where

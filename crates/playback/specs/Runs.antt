@@ -47,11 +47,13 @@ pub record Lent (recording : List ℕ) (at : ℕ) : Type 0 where
   pub place : length gone ≡ at
   pub none-beyond : ended ≡ true → beyond ≡ []
 
-module _ {recording : List ℕ} {at : ℕ} where
-  -- the promise of a step: of what it returns, and of what it leaves in the lent output
-  abbrev pub Promised : Lent recording at → Playback → Stepped → (left : List ℕ) → Type 0
-  Promised l p r left =
-      let s = step (l .window) (l .ended) (l .output) p in (r ≡ asStepped s) × (left ≡ over (s .bytes) (l .output))
+-- the promise of a step: of what it returns, and of what it leaves in the lent output
+abbrev pub StepPromises : (window : List ℕ) → (ended : Bool) → (output : List ℕ) → Playback → Stepped → (left : List ℕ) → Type 0
+StepPromises window ended output p r left =
+    (r ≡ asStepped (step window ended output p)) × (left ≡ over (step window ended output p .bytes) output)
+
+abbrev pub Promised : {recording : List ℕ} {at : ℕ} → Lent recording at → Playback → Stepped → (left : List ℕ) → Type 0
+Promised l p r left = StepPromises (l .window) (l .ended) (l .output) p r left
 
 -- what the caller reads in the output, at the ticks that the step answers
 abbrev pub seen : Stepped → (left : List ℕ) → List Delivery
