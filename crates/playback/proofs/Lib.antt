@@ -13,3 +13,4 @@ pub mod Exact
 pub mod Promises
 pub mod Unique
 pub mod WorkedReplays
+pub mod Messages
