@@ -2,8 +2,8 @@
 use mathlib.Core.Path.{_≡_, refl, sym, ap, _∙_}
 use mathlib.Core.Bool.{Bool, true, false, cond}
 use mathlib.Core.List.{List, [], _∷_, _++_, map}
-use Prim.Native.Nat.{ℕ, zero, suc, _+_, _*_, _%_, _≤_, _<_}
-use native.Mathlib.Nat.{mod-lt, mod-eq-of-lt}
+use Prim.Native.Nat.{ℕ, zero, suc, _+_, _*_, _≤_, _<_}
+use native.Mathlib.Nat.{mod-eq-of-lt}
 use native.Mathlib.Omega.{arith}
 use lib.ListN.{length}
 use lib.Dec.{eqb, leb}
@@ -30,10 +30,10 @@ use Rattle.playback.specs.Gaps.{gapFrom}
 use Rattle.playback.specs.Replays.{Replayed, setUpAll, callsFrom, faultIn, replayOn, replay}
 use Rattle.playback.specs.Quiet.{ticks}
 use Rattle.playback.specs.Steps.{in64}
-use Rattle.playback.specs.Runs.{replayedIn64, Exact}
+use Rattle.playback.specs.Runs.{replayedIn64, ExactReplay}
 use Rattle.playback.proofs.Held.{ticked-slots, heard-held, set-up-held}
 use Rattle.playback.proofs.Steps.{unread}
-use Rattle.playback.proofs.Runs.{delivery64}
+use Rattle.playback.proofs.Runs.{delivery64, every-replay}
 
 -- ── no delivery is later than this ──
 abbrev UpTo : (most : ℕ) → List Delivery → Type 0
@@ -118,8 +118,9 @@ same-deliveries most small (d ∷ ds) (u, us) =
     let same : in64 (d .tick) ≡ d .tick = mod-eq-of-lt low in
     rw (same, same-deliveries most small ds us)
 
-pub exact : Exact
-exact settings recording short = by (eqb (of-node.numberOf (o .reply)) 0)
+pub enough : (settings : List (Stream × Settings)) (recording : List ℕ) → length recording < 281474976710656
+    → replayedIn64 (replay settings recording) ≡ replay settings recording
+enough settings recording short = by (eqb (of-node.numberOf (o .reply)) 0)
   where
     o : Outcome
     o = setUpAll settings fresh
@@ -134,7 +135,8 @@ exact settings recording short = by (eqb (of-node.numberOf (o .reply)) 0)
         let most : ℕ = 65535 * length recording in
         let small : most < 18446744073709551616 = omega arith in
         let ds = deliveriesFrom (o .node) (callsFrom (o .node .counter) (rest .records)) in
-        let deliveries : map delivery64 ds ≡ ds = same-deliveries most small ds (records-up-to most (rest .records) (o .node) (omega (arith, few, zero-there))) in
+        let early = records-up-to most (rest .records) (o .node) (omega (arith, few, zero-there)) in
+        let deliveries : map delivery64 ds ≡ ds = same-deliveries most small ds early in
         let inside = fault-inside (every-recording-is-read recording) in
         let low : faultIn rest < 18446744073709551616 = omega (arith, inside) in
         let offset : in64 (faultIn rest) ≡ faultIn rest = mod-eq-of-lt low in
@@ -146,3 +148,6 @@ exact settings recording short = by (eqb (of-node.numberOf (o .reply)) 0)
     by : (t : Bool) → replayedIn64 (cond t (replayOn (o .node) rest) refused) ≡ cond t (replayOn (o .node) rest) refused
     by true = replayed-so
     by false = refl
+
+pub exact-replay : ExactReplay
+exact-replay settings recording r short run = every-replay settings recording r run ∙ enough settings recording short

@@ -1,24 +1,20 @@
 -- A step of the code goes as the definition does: what it delivers, and what is left to replay then; and it gets nearer to the end.
 use mathlib.Core.Path.{_≡_, refl, sym, ap, subst, _∙_}
-use mathlib.Core.Bool.{Bool, true, false, cond, not, _&&_, and-eq-true-iff, true≢false}
-use mathlib.Core.Logic.{_≢_, _⊎_, inl, inr}
+use mathlib.Core.Bool.{true, false, true≢false}
+use mathlib.Core.Logic.{_≢_, _⊎_, inl}
 use mathlib.Core.List.{List, [], _∷_, _++_, append-assoc}
-use Prim.Native.Nat.{ℕ, zero, suc, _+_, _-_, _≤_, _<_}
+use Prim.Native.Nat.{ℕ, _+_, _-_, _≤_, _<_}
 use native.Mathlib.Nat.{add-zero, zero-add, mod-add-mod}
 use native.Mathlib.Omega.{arith}
-use borrow.Author.Tests.{eqb-true, eqb-false, eq-eqb, ltb-true, ltb-false, ne-eqb}
 use lib.ListN.{length, replicate-append-replicate, length-append}
-use lib.Dec.{eqb, ltb}
 use Rattle.heard.specs.declared.reading.HeardAt.{HeardAt}
-use Rattle.heard.specs.declared.reply.Reply.{Reply}
-use Rattle.heard.specs.declared.reply.Reply.the-variants.{Done, ShortOutput, CutRecord}
+use Rattle.heard.specs.declared.reply.Reply.the-variants.{Done, CutRecord}
 use Rattle.heard.specs.Replies.{numberOf}
 use Rattle.heard.specs.Reading.{heardAt}
 use Rattle.heard.specs.Recordings.{Record, Recording, behind, recordIn}
 use Rattle.heard.specs.RoundTrip.{ReadBy, at-end, at-fault, one-read}
 use Rattle.heard.specs.Windows.{moved}
 use Rattle.heard.proofs.Passed.{passed, within}
-use Rattle.heard.proofs.Ways.{no-head}
 use Rattle.heard.proofs.Windows.{window-answers}
 use Rattle.node.specs.declared.Node.{Node}
 use Rattle.node.specs.Nodes.{Outcome}
@@ -27,14 +23,12 @@ use Rattle.node.specs.Clock.{unbounded, rolled}
 use Rattle.node.specs.Calls.{Call, outcome, roll}
 use Rattle.node.proofs.kept.EveryCall.{kept-by}
 use Rattle.playback.specs.declared.Playback.{Playback}
-use Rattle.playback.specs.declared.step.Way.the-variants.{On, MoreBytes, MoreRoom, Over}
 use Rattle.playback.specs.Deliveries.{Delivery, deliveriesIn, deliveredBy, deliveriesFrom, room}
 use Rattle.playback.specs.Gaps.{gapFrom}
 use Rattle.playback.specs.Replays.{Replayed, callsFrom, replayOn}
 use Rattle.playback.specs.Quiet.{quiet, standing, ticks, heldIn}
-use Rattle.playback.specs.Steps.{in64, Step, stopped, wentOn, jumped, tickStep, hearStep, atFault, step}
+use Rattle.playback.specs.Steps.{in64, Step, wentOn, jumped, tickStep, hearStep, step}
 use Rattle.playback.specs.Runs.{Lent, counted}
-use Rattle.playback.proofs.StepCases.{Case, all-done, wants-bytes, wants-room, faulty, ticked, heard, step-case}
 use Rattle.playback.proofs.Stretches.{quiet-at-most}
 use Rattle.playback.proofs.Deliveries.{jump-delivers-nothing, gap-in-64, calls-in-parts}
 use Rattle.playback.proofs.Held.{ticked-slots, fewer-held, heard-held}

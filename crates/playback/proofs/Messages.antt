@@ -1,31 +1,28 @@
 -- The records that are read are the messages that were delivered.
-use mathlib.Core.Path.{_≡_, refl, sym, ap, subst, _∙_}
+use mathlib.Core.Path.{_≡_, refl, sym, ap, _∙_}
 use mathlib.Core.Bool.{Bool, true, false, cond, _&&_}
 use mathlib.Core.List.{List, [], _∷_, _++_, map, map-map, append-nil}
 use Prim.Native.Nat.{ℕ, _+_, _/_, _≤_, _<_}
 use native.Mathlib.Omega.{arith}
-use lib.ListN.{length, take, length-append, length-take}
+use lib.ListN.{length, length-append, length-take}
 use lib.Dec.{eqb, ltb}
 use Rattle.wire.specs.declared.ids.Stream.{Stream}
-use Rattle.wire.specs.declared.ids.BusId.{BusId}
 use Rattle.wire.specs.declared.reply.Reply.{Reply}
 use Rattle.wire.specs.Identifiers.{maxBusId, streamOf, codeOf}
 use Rattle.wire.specs.Frames.{maxPayload}
 use Rattle.wire.specs.Replies.{numberOf}
-use Rattle.wire.specs.Delivered.{recordOf, recordsOf, messagesAt, Writable, no-message, one-more}
+use Rattle.wire.specs.Delivered.{recordOf, recordsOf, Writable, no-message, one-more}
 use Rattle.wire.proofs.Frames.{frame-bounds, frame-length}
 use Rattle.wire.proofs.LegalSettings.{legal-tells}
 use Rattle.wire.proofs.Reading.{messages-back}
 use Rattle.wire.proofs.Records.{record-length}
 use Rattle.node.specs.declared.slots.Slot.{Slot}
-use Rattle.node.specs.declared.Node.{Node}
 use Rattle.node.specs.Slots.{payloadOf}
 use Rattle.node.specs.Nodes.{slotOf, Outcome}
-use Rattle.node.specs.Hear.{deliveredAtOnce, hearRefusals, hear}
+use Rattle.node.specs.Hear.{deliveredAtOnce, hearRefusals}
 use Rattle.node.specs.Tick.{due, ageOf, place, dueSlots, recordsFrom, tick}
 use Rattle.node.specs.Clock.{Clock, unbounded}
-use Rattle.node.specs.Calls.{Call, outcome}
-use Rattle.node.specs.Reachable.{KeptSlot, All, Kept}
+use Rattle.node.specs.Reachable.{KeptSlot, All}
 use Rattle.node.proofs.Cases.{Refuses, by-case}
 use Rattle.node.proofs.slots.Table.{all-weaken}
 use Rattle.node.proofs.hear.Cases.{hear-cases}

@@ -1,11 +1,8 @@
 -- The promises that the runs speak of are those of the sources.
 use mathlib.Core.Path.{_≡_, refl}
-use mathlib.Core.List.{List}
-use Prim.Native.Nat.{ℕ}
 use denote.Ref.{now}
-use Rattle.wire.specs.Delivered.{over}
 use Rattle.playback.specs.Steps.{freshPlayback, prepared}
-use Rattle.playback.specs.Runs.{Lent, StepPromises}
+use Rattle.playback.specs.Runs.{StepPromises}
 use Rattle.playback.proofs.Playback.fresh.Reads as fresh
 use Rattle.playback.proofs.Playback.set_up.Reads as set-up
 use Rattle.playback.proofs.Playback.step.Reads as step

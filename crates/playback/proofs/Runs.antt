@@ -1,11 +1,10 @@
 -- Whole runs: what they give is what the definition says, they end, and there is one for every recording.
 use mathlib.Core.Path.{_≡_, refl, sym, ap, subst, _∙_}
-use mathlib.Core.Bool.{Bool, true, false, cond, true≢false, false≢true}
-use mathlib.Core.Logic.{_≢_, _⊎_, inl, inr}
-use mathlib.Core.List.{List, [], _∷_, _++_, map, append-assoc, append-nil, map-map, map-append}
-use Prim.Native.Nat.{ℕ, zero, suc, _+_, _-_, _≤_, _<_}
+use mathlib.Core.Bool.{Bool, true, false}
+use mathlib.Core.List.{List, [], _++_, map, append-assoc, append-nil, map-map, map-append}
+use Prim.Native.Nat.{ℕ, _+_, _-_, _≤_}
 use native.Mathlib.Omega.{arith}
-use lib.ListN.{length, take, drop}
+use lib.ListN.{length, drop}
 use lib.Seq.{take-append-seam}
 use lib.Dec.{eqb}
 use Rattle.wire.specs.declared.ids.Stream.{Stream}
@@ -20,21 +19,20 @@ use Rattle.heard.proofs.WrittenThenRead.{every-recording-is-read}
 use Rattle.node.specs.declared.Node.{Node}
 use Rattle.node.specs.Nodes.{Outcome, fresh}
 use Rattle.node.specs.SetUp.{setUp}
-use Rattle.node.specs.Clock.{unbounded, rolled}
-use Rattle.node.specs.Calls.{Call, outcome, rollOutcome}
+use Rattle.node.specs.Calls.{Call, rollOutcome}
 use Rattle.node.proofs.kept.EveryCall.{kept-fresh, kept-by}
 use Rattle.playback.specs.declared.Playback.{Playback}
 use Rattle.playback.specs.declared.set_up.Prepared.{Prepared}
 use Rattle.playback.specs.declared.step.Stepped.{Stepped}
 use Rattle.playback.specs.Deliveries.{Delivery, deliveredAt, deliveriesIn}
-use Rattle.playback.specs.Replays.{Replayed, setUpAll, replayOn, replay}
+use Rattle.playback.specs.Replays.{Replayed, setUpAll, replayOn}
 use Rattle.playback.specs.Quiet.{heldIn}
-use Rattle.playback.specs.Steps.{in64, freshPlayback, withNode, prepared, Step, step, asStepped}
-use Rattle.playback.specs.Runs.{Prepares, all-set-up, refused, next, Lent, Promised, seen, isOver, counted, Steps, start, Run, not-begun, ended}
+use Rattle.playback.specs.Steps.{in64, freshPlayback, withNode, prepared, step, asStepped}
+use Rattle.playback.specs.Runs.{Prepares, all-set-up, refused, next, Lent, Promised, seen, isOver, counted, Steps, start, not-begun, ended}
 use Rattle.playback.specs.Runs.{replayedIn64, EveryReplay, Ends}
 use Rattle.playback.proofs.Held.{set-up-held}
 use Rattle.playback.proofs.Holding.{Holds, call-holds}
-use Rattle.playback.proofs.Following.{Went, ahead}
+use Rattle.playback.proofs.Following.{ahead}
 use Rattle.playback.proofs.Steps.{goes-on, ends}
 
 -- ── the settings ──
@@ -136,7 +134,8 @@ module _ (recording : List ℕ) where
         holds = f .holds;
         later = f .later;
         reads = f .reads;
-        same = joined (replayOn u rest) (replayOn (w .to) (w .later)) (replayedIn64 (replayOn (f .to) (f .later))) ds xs (seen r left) (w .same) (seen-so l p r left (w .to .counter) promised (w .holds .ticks)) (f .same);
+        same = joined (replayOn u rest) (replayOn (w .to) (w .later)) (replayedIn64 (replayOn (f .to) (f .later))) ds xs (seen r left)
+            (w .same) (seen-so l p r left (w .to .counter) promised (w .holds .ticks)) (f .same);
         nearer = omega (arith, w .nearer, f .nearer, took, ways);
       }
 

@@ -1,9 +1,9 @@
 -- A step that is lent enough asks for no more; so there is a whole run for every settings and every recording.
 use mathlib.Core.Path.{_≡_, refl, sym, ap, subst, _∙_}
-use mathlib.Core.Bool.{Bool, true, false, true≢false, false≢true}
+use mathlib.Core.Bool.{Bool, true, false, true≢false}
 use mathlib.Core.Logic.{_≢_, _⊎_, inl, inr}
 use mathlib.Core.List.{List, [], _∷_, _++_, append-nil}
-use Prim.Native.Nat.{ℕ, zero, suc, _+_, _-_, _≤_, _<_}
+use Prim.Native.Nat.{ℕ, zero, suc, _+_, _-_, _≤_}
 use native.Mathlib.Omega.{arith}
 use lib.ListN.{length, take, drop, take-append-drop}
 use lib.Seq.{length-take-le}
@@ -13,7 +13,6 @@ use Rattle.wire.specs.declared.settings.Settings.{Settings}
 use Rattle.wire.specs.declared.reply.Reply as node-reply
 use Rattle.wire.specs.Replies as of-node
 use Rattle.wire.specs.Delivered.{over, AreBytes}
-use Rattle.heard.specs.Replies as of-reader
 use Rattle.heard.specs.Recordings.{Recording, recordingIn}
 use Rattle.heard.specs.RoundTrip.{ReadBy}
 use Rattle.heard.specs.Windows.{mostAsked}
@@ -24,13 +23,13 @@ use Rattle.node.specs.Nodes.{fresh}
 use Rattle.node.specs.Tick.{tickRoom}
 use Rattle.playback.specs.declared.Playback.{Playback}
 use Rattle.playback.specs.declared.set_up.Prepared.{Prepared}
-use Rattle.playback.specs.declared.step.Way.the-variants.{On, MoreBytes, MoreRoom, Over}
+use Rattle.playback.specs.declared.step.Way.the-variants.{On, Over}
 use Rattle.playback.specs.declared.step.Stepped.{Stepped}
 use Rattle.playback.specs.Deliveries.{Delivery, room}
 use Rattle.playback.specs.Replays.{Replayed, setUpAll, replay}
 use Rattle.playback.specs.Quiet.{heldIn}
 use Rattle.playback.specs.Steps.{freshPlayback, prepared, Step, step, asStepped, tickStep, hearStep}
-use Rattle.playback.specs.Runs.{Prepares, all-set-up, refused, next, Lent, Promised, seen, isOver, counted, Steps, start, Run, not-begun, ended}
+use Rattle.playback.specs.Runs.{Prepares, all-set-up, Lent, Promised, seen, isOver, counted, Steps, Run, not-begun, ended}
 use Rattle.playback.specs.Runs.{replayedIn64, Fed, SomeRun}
 use Rattle.playback.proofs.StepCases.{Case, all-done, wants-bytes, wants-room, faulty, ticked, heard, step-case}
 use Rattle.playback.proofs.Holding.{Holds}

@@ -89,7 +89,8 @@ module _ (window : List ℕ) (ended : Bool) (output : List ℕ) (p : Playback) w
           (wants-room (ltb-true (length output) tickRoom t))
       by-room more ok false t = by-quiet more ok (ltb-false (length output) tickRoom t) (ltb still gap) refl
 
-      by-fault : ended && eqb (length window) 0 ≡ false → read .ok ≡ false → (t : Bool) → eqb (numberOf (read .reply)) (numberOf CutRecord) && not ended ≡ t → Case s
+      by-fault : ended && eqb (length window) 0 ≡ false → read .ok ≡ false → (t : Bool)
+          → eqb (numberOf (read .reply)) (numberOf CutRecord) && not ended ≡ t → Case s
       by-fault more bad true t =
           let both = and-eq-true-iff (eqb (numberOf (read .reply)) (numberOf CutRecord)) (not ended) .0 t in
           is (ways.not-read window ended output p more read refl bad ∙ sym (ways.more-may-follow p (read .reply) ended _ _ refl refl t))

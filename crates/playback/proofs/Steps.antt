@@ -1,12 +1,12 @@
 -- Every step of the code goes as the definition does, and the last one says how it ends.
 use mathlib.Core.Path.{_≡_, refl, sym, ap, subst, _∙_}
-use mathlib.Core.Bool.{Bool, true, false, cond, not, true≢false, false≢true}
+use mathlib.Core.Bool.{Bool, true, false, true≢false, false≢true}
 use mathlib.Core.Logic.{_≢_, _⊎_, inl, inr}
-use mathlib.Core.List.{List, [], _++_}
-use Prim.Native.Nat.{ℕ, _+_, _≤_, _<_}
+use mathlib.Core.List.{List, []}
+use Prim.Native.Nat.{ℕ, _+_, _<_}
 use native.Mathlib.Nat.{zero-add}
 use native.Mathlib.Omega.{arith}
-use lib.ListN.{length, length-append}
+use lib.ListN.{length}
 use lib.Dec.{eqb}
 use Rattle.wire.specs.Delivered.{following, isCut}
 use Rattle.heard.specs.declared.reading.HeardAt.{HeardAt}
@@ -19,14 +19,10 @@ use Rattle.heard.specs.RoundTrip.{ReadBy, at-end, at-fault, one-read}
 use Rattle.heard.specs.Windows.{moved}
 use Rattle.heard.proofs.Passed.{answerBy}
 use Rattle.node.specs.declared.Node.{Node}
-use Rattle.node.specs.Tick.{tickRoom}
-use Rattle.node.specs.Clock.{rolled}
 use Rattle.playback.specs.declared.Playback.{Playback}
 use Rattle.playback.specs.declared.step.Way.the-variants.{Over}
-use Rattle.playback.specs.Gaps.{gapFrom}
-use Rattle.playback.specs.Quiet.{quiet}
-use Rattle.playback.specs.Replays.{Replayed, replayOn}
-use Rattle.playback.specs.Steps.{in64, Step, stopped, jumped, tickStep, hearStep, step}
+use Rattle.playback.specs.Replays.{replayOn}
+use Rattle.playback.specs.Steps.{Step, stopped, jumped, tickStep, hearStep, step}
 use Rattle.playback.specs.Runs.{Lent, isOver, replayedIn64}
 use Rattle.playback.proofs.StepCases.{Case, all-done, wants-bytes, wants-room, faulty, ticked, heard, step-case}
 use Rattle.playback.proofs.Holding.{Holds}

@@ -2,7 +2,7 @@
 -- them; and the steps give what the definition says.
 use mathlib.Core.Path.{_≡_, refl, sym, ap, _∙_}
 use mathlib.Core.Bool.{Bool, true, false, cond, _&&_, and-eq-true-iff}
-use mathlib.Core.List.{List, [], _∷_, _++_, map, append-nil}
+use mathlib.Core.List.{List, [], _∷_, map, append-nil}
 use Prim.Native.Nat.{ℕ, zero, suc, _+_, _-_, _≤_, _<_}
 use native.Mathlib.Omega.{arith}
 use lib.ListN.{length, drop}
@@ -29,21 +29,22 @@ use Rattle.node.specs.Slots.{sameBytes, first, onFirst, some}
 use Rattle.node.specs.SetUp.{setUp}
 use Rattle.node.specs.Hear.{heardBy, deliveredAtOnce, hear}
 use Rattle.node.specs.Tick.{late, due, holdOver, lapsed, dueSlots, recordsFrom, tick}
+use Rattle.node.specs.Request.{request, requested}
 use Rattle.node.specs.Calls.{roll}
 use Rattle.playback.specs.declared.Playback.{Playback}
-use Rattle.playback.specs.Deliveries.{Delivery, deliveredAt, deliveriesIn, room}
+use Rattle.playback.specs.Deliveries.{Delivery, deliveriesIn, room}
 use Rattle.playback.specs.Replays.{Replayed, setUpAll, replayOn, replay}
 use Rattle.playback.specs.Gaps.{gapFrom}
 use Rattle.playback.specs.Quiet.{withSlot, quietIn, heldIn}
 use Rattle.playback.specs.Steps.{in64, freshPlayback, Step, tickStep, hearStep, towards, step}
-use Rattle.playback.specs.Runs.{Lent, isOver, counted, replayedIn64}
-use Rattle.playback.specs.WorkedReplays.{Row, rows, ReplayedAsWorked}
+use Rattle.playback.specs.Runs.{isOver, replayedIn64}
+use Rattle.playback.specs.WorkedReplays.{Row, rows, ReplayedAsWorked, stretches, QuietAsWorked}
 use Rattle.playback.proofs.Holding.{Holds}
 use Rattle.playback.proofs.Following.{Went, ahead}
 use Rattle.playback.proofs.Steps.{goes-on, ends}
 use Rattle.playback.proofs.Runs.{prepares-as, fresh-holds, deliveries-in-64, joined}
 use Rattle.playback.proofs.SomeRuns.{all-left, went-on, some-settings}
-use Rattle.playback.proofs.Exact.{exact}
+use Rattle.playback.proofs.Exact.{enough}
 
 -- so many steps, each lent all that is left
 abbrev stepped : (fuel : ℕ) → (left : List ℕ) → Playback → Replayed
@@ -95,7 +96,7 @@ played settings recording =
 
 played-so : (settings : List (Stream × Settings)) (recording : List ℕ) → length recording < 281474976710656
     → replay settings recording ≡ played settings recording
-played-so settings recording short = sym (exact settings recording short) ∙ by (eqb (of-node.numberOf (o .reply)) 0)
+played-so settings recording short = sym (enough settings recording short) ∙ by (eqb (of-node.numberOf (o .reply)) 0)
   where
     o : Outcome
     o = setUpAll settings fresh
@@ -106,27 +107,34 @@ played-so settings recording short = sym (exact settings recording short) ∙ by
     refused : Replayed
     refused = record { deliveries = []; reply = of-node.numberOf (o .reply); offset = 0 }
 
-    by : (t : Bool) → replayedIn64 (cond t (replayOn (o .node) (recordingIn recording)) refused) ≡ cond t (stepped (suc (length recording)) recording p) refused
+    by : (t : Bool)
+        → replayedIn64 (cond t (replayOn (o .node) (recordingIn recording)) refused) ≡ cond t (stepped (suc (length recording)) recording p) refused
     by false = refl
     by true =
         let set = prepares-as (some-settings settings freshPlayback .set-up) fresh 0 fresh-holds in
         let none = set .held in
         let holds : Holds (o .node) 0 p =
         record { kept = set .holds .kept; node = refl; ticks = ap in64 (sym (set .counter)); taken = refl } in
-        sym (stepped-so recording (suc (length recording)) (o .node) p 0 holds (omega arith) (recordingIn recording) (every-recording-is-read recording) (omega arith))
+        sym (stepped-so recording (suc (length recording)) (o .node) p 0 holds (omega arith) (recordingIn recording) (every-recording-is-read recording)
+        (omega arith))
 
 -- ── the table ──
 abbrev allShort : List Row → Bool
 allShort [] = true
 allShort (r ∷ rs) = ltb (length (r .recording)) 281474976710656 && allShort rs
 
-all-so : (rs : List Row) → allShort rs ≡ true → map (λ (r : Row). replay (r .settings) (r .recording)) rs ≡ map (λ (r : Row). played (r .settings) (r .recording)) rs
+all-so : (rs : List Row) → allShort rs ≡ true
+    → map (λ (r : Row). replay (r .settings) (r .recording)) rs ≡ map (λ (r : Row). played (r .settings) (r .recording)) rs
 all-so [] short = refl
 all-so (r ∷ rs) short =
     let both = and-eq-true-iff (ltb (length (r .recording)) 281474976710656) (allShort rs) .0 short in
     rw (played-so (r .settings) (r .recording) (ltb-true _ _ (both .0)), all-so rs (both .1))
 
 pub replayed-as-worked : ReplayedAsWorked
-unfolding rows step towards tickStep hearStep quietIn withSlot gapFrom heardAt countBytes recordOf setUp hear heardBy deliveredAtOnce tick late due holdOver lapsed
-    dueSlots recordsFrom delivered.recordOf legal badFrame carries first onFirst some sameBytes delivered.recordAt
+unfolding rows step towards tickStep hearStep quietIn withSlot gapFrom heardAt countBytes recordOf setUp hear heardBy deliveredAtOnce tick
+    late due holdOver lapsed dueSlots recordsFrom delivered.recordOf legal badFrame carries first onFirst some sameBytes delivered.recordAt
 replayed-as-worked = all-so rows refl ∙ refl
+
+pub quiet-as-worked : QuietAsWorked
+unfolding stretches quietIn withSlot setUp hear heardBy deliveredAtOnce request requested legal badFrame carries first onFirst some sameBytes
+quiet-as-worked = refl

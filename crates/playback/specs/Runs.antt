@@ -1,6 +1,6 @@
 -- Whole runs of a replay: settings set up one after the other, then steps, of which nothing is known but that each kept its promise; and that
 -- they give what the definition says, with ticks counted without bound.
-use Prim.Native.Nat.{ℕ, suc, _+_, _≤_, _<_}
+use Prim.Native.Nat.{ℕ, _+_, _≤_, _<_}
 use mathlib.Core.Path.{_≡_}
 use mathlib.Core.Bool.{Bool, true, false}
 use mathlib.Core.Logic.{_⊎_}
@@ -103,11 +103,11 @@ abbrev pub EveryReplay : Type 0
 EveryReplay =
     (settings : List (Stream × Settings)) (recording : List ℕ) (r : Replayed) → Run settings recording r → r ≡ replayedIn64 (replay settings recording)
 
--- and 64 bits are enough for 281 terabytes
-abbrev pub Exact : Type 0
-Exact =
-    (settings : List (Stream × Settings)) (recording : List ℕ) → length recording < 281474976710656
-    → replayedIn64 (replay settings recording) ≡ replay settings recording
+-- and nothing else, where the recording has fewer than 2^48 bytes: 64 bits are enough then
+abbrev pub ExactReplay : Type 0
+ExactReplay =
+    (settings : List (Stream × Settings)) (recording : List ℕ) (r : Replayed) → length recording < 281474976710656 → Run settings recording r
+    → r ≡ replay settings recording
 
 -- it ends: no more steps are taken than the recording has bytes, however long the gaps are
 abbrev pub Ends : Type 0

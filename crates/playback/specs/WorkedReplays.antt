@@ -1,4 +1,4 @@
--- Worked replays, as one table: settings, a recording, and what its replay gives.
+-- Worked replays, as one table: settings, a recording, and what its replay gives; and worked stretches, a node and for how long it is quiet.
 use Prim.Native.Nat.{ℕ, _+_}
 use mathlib.Core.Path.{_≡_}
 use mathlib.Core.List.{List, [], _∷_, _++_, map}
@@ -7,8 +7,13 @@ use Rattle.wire.specs.declared.ids.Stream.{Stream}
 use Rattle.wire.specs.declared.settings.Settings.{Settings}
 use Rattle.wire.specs.Settings.{ofPlain, ofTwoMessage}
 use Rattle.heard.specs.Records.{atCounter, recordOf}
-use Rattle.playback.specs.Deliveries.{Delivery}
+use Rattle.node.specs.declared.Node.{Node}
+use Rattle.node.specs.Nodes.{fresh}
+use Rattle.node.specs.Clock.{rolled}
+use Rattle.node.specs.Calls.{Call, afterFrom}
+use Rattle.playback.specs.Deliveries.{Delivery, room}
 use Rattle.playback.specs.Replays.{Replayed, replay}
+use Rattle.playback.specs.Quiet.{quiet, standing}
 
 -- ── settings ──
 abbrev pub stream : ℕ → Stream
@@ -103,3 +108,48 @@ rows =
 
 abbrev pub ReplayedAsWorked : Type 0
 ReplayedAsWorked = map (λ (r : Row). replay (r .settings) (r .recording)) rows ≡ map (λ (r : Row). r .gives) rows
+
+-- ── worked stretches ──
+-- stream 5 holds what was heard at this count, unconfirmed; and confirmed at once
+abbrev pub holding : (counter : ℕ) → Node
+holding counter =
+    afterFrom rolled (standing counter fresh)
+    (Call.setUp (five .0) (five .1) ∷ Call.hear (record { 0 = 20 }) 2 (0x0a ∷ 0x0b ∷ []) room ∷ [])
+
+abbrev pub confirmedAt : (counter : ℕ) → Node
+confirmedAt counter = afterFrom rolled (holding counter) (Call.hear (record { 0 = 21 }) 0 [] room ∷ [])
+
+-- stream 7 sends, and holds what was requested at this count
+abbrev pub sending : (counter : ℕ) → Node
+sending counter =
+    afterFrom rolled (standing counter fresh) (Call.setUp (sevenSent .0) (sevenSent .1) ∷ Call.request (sevenSent .0) (0x0a ∷ []) ∷ [])
+
+pub record Stretch : Type 0 where
+  pub node : Node
+  pub most : ℕ
+  pub still : ℕ
+
+abbrev stretch : Node → (most still : ℕ) → Stretch
+stretch node most still = record { node = node; most = most; still = still }
+
+unfoldable pub stretches : List Stretch
+stretches =
+    -- nothing is held
+    stretch fresh 4294967295 4294967295 ∷
+    -- heard at 10: held at 13, dropped when the counter becomes 14
+    stretch (holding 10) 100 3 ∷
+    stretch (holding 10) 2 2 ∷
+    stretch (standing 12 (holding 10)) 100 1 ∷
+    stretch (standing 13 (holding 10)) 100 0 ∷
+    -- confirmed: held at 16, delivered when it becomes 17
+    stretch (confirmedAt 10) 100 6 ∷
+    stretch (standing 13 (confirmedAt 10)) 100 3 ∷
+    -- the counter rolls over
+    stretch (holding 65534) 100 3 ∷
+    stretch (standing 0 (holding 65534)) 100 1 ∷
+    -- a sender's hold ends after Rd + dd
+    stretch (sending 10) 100 8 ∷
+    []
+
+abbrev pub QuietAsWorked : Type 0
+QuietAsWorked = map (λ (s : Stretch). quiet rolled (s .most) (s .node)) stretches ≡ map (λ (s : Stretch). s .still) stretches
