@@ -6,6 +6,7 @@ use lib.Dec.{eqb}
 use Rattle.wire.specs.declared.ids.Stream.{Stream}
 use Rattle.wire.specs.declared.ids.BusId.{BusId}
 use Rattle.wire.specs.declared.settings.Settings.{Settings}
+use Rattle.wire.specs.Delivered as wire
 use Rattle.node.specs.declared.slots.Slot.{Slot}
 use Rattle.node.specs.declared.Node.{Node}
 use Rattle.node.specs.Nodes.{fresh, slotOf, noId}
@@ -50,6 +51,10 @@ pub record Delivery : Type 0 where
   pub at : ℕ
   pub stream : Stream
   pub payload : List ℕ
+
+-- the records of deliveries, one after the other
+abbrev pub recordsOf : List Delivery → List ℕ
+recordsOf ds = wire.recordsOf (map (λ (d : Delivery). (d .stream, d .payload)) ds)
 
 -- the log has the newest delivery first
 pub record Module : Type 0 where

@@ -7,7 +7,6 @@ use native.Mathlib.Omega.{arith}
 use lib.ListN.{length, getD, set, replicate, take, drop, take-append-drop}
 use lib.Seq.{take-append-seam}
 use borrow.Author.Tests.{le-leb, lt-leb}
-use Rattle.wire.specs.declared.reply.Reply.the-variants.{Done}
 use Rattle.wire.specs.Frames.{maxPayload}
 use Rattle.wire.specs.Delivered.{over}
 use Rattle.node.specs.declared.Answered.{Answered}
@@ -25,7 +24,7 @@ use Rattle.bench.specs.SetUp.{isDone}
 use Rattle.bench.specs.Bench as history
 use Rattle.bench.specs.Events.{lent, withNode}
 use Rattle.bench_in_code.specs.InCode.{nobody, shown, kept, silence, answeredTurn, tickTurn, hearTurn, payloadOf, moduleIn, isLiveIn, callIn, onModule}
-use Rattle.bench_in_code.specs.InCode.{asked, next, givingOf, withFrame, notGiven, capacity}
+use Rattle.bench_in_code.specs.InCode.{notAsked, asked, next, givingOf, withFrame, notGiven, capacity}
 use Rattle.bench.proofs.laws.ListPlaces.{nth-inside, nth-past, at-inside, at-past}
 
 -- ── one module of the bench ──
@@ -64,7 +63,7 @@ module _ (b : Bench) (eight : length (b .modules) ≡ 8) (who : ℕ) where
         rw (t, bench, a-is)
 
 pub nobody-answers : (there : Bool) → there ≡ false → (c : Call) (who : ℕ) (b : Bench)
-    → record { bench = b; there = false; reply = Done } ≡ asked there c who b
+    → notAsked b ≡ asked there c who b
 unfolding asked
 nobody-answers there t c who b = rw t
 

@@ -6,26 +6,25 @@ use native.Mathlib.Omega.{arith}
 use mathlib.Core.Path.{_≡_, refl, ap, sym, subst, _∙_}
 use mathlib.Core.Logic.{_⊎_, inl, inr}
 use mathlib.Core.Bool.{Bool, true, false, not, cond, _&&_}
-use mathlib.Core.List.{List, [], _∷_, _++_, map}
+use mathlib.Core.List.{List, [], _∷_, map}
 use lib.ListN.{length, length-map, replicate, getD, drop}
 use lib.Seq.{take-append-seam}
-use lib.Dec.{T, eqb, ltb, eqb→eq}
+use lib.Dec.{T, eqb, eqb→eq}
 use borrow.Author.Tests.{lt-leb}
 use Rattle.wire.specs.declared.ids.Stream.{Stream}
-use Rattle.wire.specs.declared.reply.Reply.the-variants.{Done, BadLength, NotSender, Busy}
+use Rattle.wire.specs.declared.reply.Reply.the-variants.{Done}
 use Rattle.wire.specs.Frames.{maxPayload}
 use Rattle.wire.specs.Identifiers.{streamOf, codeOf}
-use Rattle.wire.specs.Delivered.{recordOf, over}
+use Rattle.wire.specs.Delivered.{over}
 use Rattle.node.specs.declared.Node.{Node}
-use Rattle.node.specs.Slots.{isSender}
-use Rattle.node.specs.Nodes.{Outcome, refused, done, slotOf, onSlot}
+use Rattle.node.specs.Nodes.{Outcome}
 use Rattle.node.specs.Clock.{unbounded, rolled}
-use Rattle.node.specs.Tick as Tick
-use Rattle.node.specs.Request.{busy, requested}
-use Rattle.node.specs.Request as Request
-use Rattle.node.specs.NextFrame as NextFrame
 use Rattle.node.specs.Calls.{Call, hear, tick, request, outcome, rollOutcome}
 use Rattle.node.proofs.Choices.{contrary}
+use Rattle.node.proofs.Cases.{by-case}
+use Rattle.node.proofs.tick.Cases.{tick-cases}
+use Rattle.node.proofs.request.Cases.{request-cases}
+use Rattle.node.proofs.next_frame.Cases.{low, next-facts, next-passes, next-cases}
 use Rattle.node.proofs.kept.EveryCall.{kept-by}
 use Rattle.node.proofs.rollover.SameAnswers.{rolls}
 use Rattle.one_stream.proofs.Truth.{and-l, is-true, so}
@@ -39,18 +38,18 @@ use Rattle.bench_in_code.specs.declared.Giving.the-variants.{Out}
 use Rattle.bench_in_code.specs.declared.Gave.{Gave}
 use Rattle.bench.specs.Lists.{nth, each}
 use Rattle.bench.specs.SetUp.{isDone}
-use Rattle.bench.specs.Bench.{Bench, Module, Frame, Delivery, pendingSince, moduleAt, sameStream, isLive, bookOf, Which, frameOf, ownerOf}
+use Rattle.bench.specs.Bench.{Bench, Module, Frame, Delivery, recordsOf, pendingSince, moduleAt, sameStream, isLive, bookOf, Which, frameOf, ownerOf}
 use Rattle.bench.specs.Events.{To, named, asks, gives, sends, ticks, dies, step, lent, call, withNode, dead, deliveries}
 use Rattle.bench.specs.Events.{heard, atOnce, gaveOut, next, isNext, asked}
 use Rattle.bench_in_code.specs.InCode as code
 use Rattle.bench_in_code.specs.InCode.{nobody, shown, kept, saying, silence, tickTurn, frameShown, moduleIn, isLiveIn, callIn, placeCount, places}
 use Rattle.bench_in_code.specs.InCode.{onModule, afterCall, turnsOf, afterTurns, saidIn, tickOf, sendingOf, givingOf, givenBy, withFrame, capacity}
 use Rattle.bench_in_code.specs.InStep.{Mirrors, InStep, SameFrame, Names, placesOf}
-use Rattle.bench_in_code.specs.Runs.{recordsOf, says, ruled, replied, said, nothing, gaveAs}
+use Rattle.bench_in_code.specs.Runs.{says, ruled, replied, said, nothing, gaveAs}
 use Rattle.bench.proofs.laws.SlotAfterCall.{asking, giving}
 use Rattle.bench.proofs.laws.ListPlaces.{nth-inside, nth-there, nth-each, length-each, map-each}
 use Rattle.bench.proofs.laws.ModuleAfterEvent.{nth-at, length-at, module-step, next-done}
-use Rattle.bench.proofs.laws.RecordsAreDeliveries as laws
+use Rattle.bench.proofs.laws.RecordsAreDeliveries.{tick-writes, heard-writes}
 use Rattle.bench_in_code.proofs.LoopsOverStations.{heardAt}
 
 -- ── one module ──
@@ -73,18 +72,16 @@ module _ {m : Module} {x : Station} (a : Mirrors m x) where
       go false = a
 
 -- what a module says are the records of what it logs
-same-records : (ds : List Delivery) → laws.recordsOf ds ≡ recordsOf ds
-same-records [] = refl
-same-records (d ∷ ds) = ap (λ (r : List ℕ). recordOf (d .stream) (d .payload) ++ r) (same-records ds)
+says-records : (o : Outcome) (ds : List Delivery) → o .bytes ≡ recordsOf ds → saying o ≡ says (o .reply) ds
+says-records o ds e = ap (λ (bytes : List ℕ). record { heard = true; reply = o .reply; len = length bytes; bytes = over bytes lent }) e
 
 tick-says : (n : Node) → saying (outcome unbounded (tick lent) n) ≡ says Done (deliveries unbounded n)
-unfolding Tick.tick
-tick-says n = ap (λ bytes. saying (done n bytes)) (laws.tick-writes unbounded n ∙ same-records (deliveries unbounded n))
+tick-says n =
+    says-records (outcome unbounded (tick lent) n) (deliveries unbounded n) (tick-writes unbounded n)
+    ∙ ap (λ (o : Outcome). says (o .reply) (deliveries unbounded n)) (tick-cases lent unbounded n .accepted-if (record { room = omega arith }))
 
 heard-says : (g : Frame) (m : Module) → saying (heard g m) ≡ says (heard g m .reply) (atOnce g m)
-heard-says g m =
-    ap (λ (bytes : List ℕ). record { heard = true; reply = heard g m .reply; len = length bytes; bytes = over bytes lent })
-    (laws.heard-writes g m ∙ same-records (atOnce g m))
+heard-says g m = says-records (heard g m) (atOnce g m) (heard-writes g m)
 
 -- ── whom a sending is to ──
 pub places-name : (to : To) → Names to (placesOf to)
@@ -98,17 +95,8 @@ Called c i b b′ = (j : ℕ) → moduleAt j b′ ≡ cond (eqb j i) (withNode (
 
 -- a request that is refused leaves the node as it was
 refusal-leaves : (z : Stream) (p : List ℕ) (n : Node) → isDone (asking z p n .reply) ≡ false → asking z p n .node ≡ n
-unfolding Request.request
-refusal-leaves z p n e =
-    go (ltb maxPayload (length p)) (not (isSender (slotOf z n))) (busy (slotOf z n)) (done (onSlot z (requested (n .counter) p) n) []) refl e
-  where
-    go : (t u v : Bool) (o : Outcome) → isDone (o .reply) ≡ true
-        → isDone (cond t (refused n BadLength) (cond u (refused n NotSender) (cond v (refused n Busy) o)) .reply) ≡ false
-        → cond t (refused n BadLength) (cond u (refused n NotSender) (cond v (refused n Busy) o)) .node ≡ n
-    go true u v o d e = refl
-    go false true v o d e = refl
-    go false false true o d e = refl
-    go false false false o d e = contrary d e
+refusal-leaves z p n =
+    by-case (λ (o : Outcome). isDone (o .reply) ≡ false → o .node ≡ n) (λ r why e. refl) (λ h e. contrary refl e) (request-cases p z n .case)
 
 request-is-call : (b : Bench) (i : ℕ) (z : Stream) (p : List ℕ) → isLive i b ≡ true → Called (request z p) i b (step b (asks i z p))
 request-is-call b i z p live j =
@@ -126,8 +114,13 @@ request-is-call b i z p live j =
 
 -- an output of eight bytes does for the next frame
 shorter-output : (n : Node) → outcome unbounded code.next n ≡ giving n
-unfolding NextFrame.nextFrame
-shorter-output n = refl
+shorter-output n =
+    let law = next-cases lent n in
+    by-case (λ o. o ≡ giving n) (λ r why. sym (law .refused-if r why))
+    (λ h. sym (law .accepted-if (next-facts lent (low lent n) (next-passes eight-bytes (low lent n) h)))) (next-cases eight-bytes n .case)
+  where
+    eight-bytes : List ℕ
+    eight-bytes = replicate maxPayload 0
 
 giving-is-call : (b : Bench) (i : ℕ) (z : Stream) (c : ℕ) → isNext i z c b ≡ true → Called code.next i b (step b (gives i z c))
 giving-is-call b i z c is-next j = module-step b (gives i z c) j ∙ rw (is-next, shorter-output (moduleAt j b .node))

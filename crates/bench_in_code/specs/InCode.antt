@@ -124,11 +124,13 @@ onModule change i b = record { modules = at (λ (m : Station). kept (change (sho
 abbrev pub afterCall : Call → ℕ → coded.Bench → coded.Bench
 afterCall c i b = onModule (withNode (callIn c i b .node)) i b
 
--- what a module answers that is there; else nobody answers, and nothing changes
+-- nobody answers, and nothing changes
+abbrev pub notAsked : coded.Bench → Asked
+notAsked b = record { bench = b; there = false; reply = Done }
+
+-- what a module answers that is there
 unfoldable pub asked : (there : Bool) → Call → ℕ → coded.Bench → Asked
-asked there c i b =
-    cond there (record { bench = afterCall c i b; there = true; reply = callIn c i b .reply })
-    (record { bench = b; there = false; reply = Done })
+asked there c i b = cond there (record { bench = afterCall c i b; there = true; reply = callIn c i b .reply }) (notAsked b)
 
 -- an event that may reach every module
 abbrev pub turnsOf : (ℕ → Station → Turn) → coded.Bench → List Turn

@@ -10,7 +10,7 @@ use Rattle.wire.specs.declared.ids.Stream.{Stream}
 use Rattle.wire.specs.declared.ids.BusId.{BusId}
 use Rattle.wire.specs.declared.reply.Reply.{Reply}
 use Rattle.wire.specs.declared.reply.Reply.the-variants.{Done}
-use Rattle.wire.specs.Delivered.{recordOf, over}
+use Rattle.wire.specs.Delivered.{over}
 use Rattle.node.specs.Clock.{unbounded}
 use Rattle.node.specs.Calls as calls
 use Rattle.bench_in_code.specs.declared.stations.Said.{Said}
@@ -23,7 +23,7 @@ use Rattle.bench_in_code.specs.declared.Giving.the-variants.{Dead, Nothi
 use Rattle.bench_in_code.specs.declared.Gave.{Gave}
 use Rattle.bench_in_code.specs.declared.Sent.{Sent}
 use Rattle.bench.specs.Lists.{at, every}
-use Rattle.bench.specs.Bench.{Bench, Delivery, Which, moduleAt, isLive, bookOf, frameOf, ownerOf}
+use Rattle.bench.specs.Bench.{Bench, Delivery, recordsOf, Which, moduleAt, isLive, bookOf, frameOf, ownerOf}
 use Rattle.bench.specs.SetUp.{Entry, Part, Plan, isDone, proper, start}
 use Rattle.bench.specs.Events as rules
 use Rattle.bench.specs.Events.{To, named, Event, asks, gives, sends, ticks, dies, step, run, lent, dead, heard, atOnce, deliveries, next}
@@ -89,10 +89,6 @@ answer (death i) x = nothing
 
 -- ── what the rules answer ──
 -- a module replies, and writes the records of these deliveries, one after the other
-abbrev pub recordsOf : List Delivery → List ℕ
-recordsOf [] = []
-recordsOf (d ∷ ds) = recordOf (d .stream) (d .payload) ++ recordsOf ds
-
 abbrev pub says : Reply → List Delivery → Said
 says reply ds = record { heard = true; reply = reply; len = length (recordsOf ds); bytes = over (recordsOf ds) lent }
 

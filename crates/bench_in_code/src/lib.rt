@@ -11,7 +11,8 @@ ghost use mathlib.Core.Path.{_≡_};
 ghost use lib.Dec.{ltb};
 ghost use Rattle.node.specs.Calls.{setUp, request};
 ghost use Rattle.bench.specs.Events.{dead};
-ghost use Rattle.bench_in_code.specs.InCode.{placeCount, benchOf, isLiveIn, asked, givingOf, sendingOf, tickOf, onModule};
+ghost use Rattle.bench_in_code.specs.InCode.{placeCount, benchOf, isLiveIn, notAsked, asked, notGiven, givingOf, sendingOf, tickOf};
+ghost use Rattle.bench_in_code.specs.InCode.{onModule};
 
 pub mod outbox;
 pub mod stations;
@@ -25,6 +26,19 @@ pub struct Asked {
     pub bench: Bench,
     pub there: bool,
     pub reply: Reply,
+}
+
+impl Asked {
+    // Nobody answers.
+    fn nobody(bench: Bench) -> Asked
+        ensures { λ r. ⌜ r ≡ notAsked bench ⌝ }
+    {
+        Asked {
+            bench,
+            there: false,
+            reply: Reply::Done,
+        }
+    }
 }
 
 // What an event that reaches several modules leaves, and what each of them said.
@@ -59,6 +73,20 @@ pub struct Gave {
     pub frame: Frame,
 }
 
+impl Gave {
+    // No frame is given out, and nothing changes.
+    fn none(bench: Bench, frames: Frames, giving: Giving) -> Gave
+        ensures { λ r. ⌜ r ≡ notGiven giving frames bench ⌝ }
+    {
+        Gave {
+            bench,
+            frames,
+            giving,
+            frame: Frame::NONE,
+        }
+    }
+}
+
 impl Bench {
     // So many modules have a place.
     pub const PLACES: usize = 8;
@@ -86,11 +114,7 @@ impl Bench {
         ensures { λ r. ⌜ r ≡ asked (ltb who placeCount) (setUp stream settings) who self ⌝ }
     {
         if who >= Bench::PLACES {
-            return Asked {
-                bench: self,
-                there: false,
-                reply: Reply::Done,
-            };
+            return Asked::nobody(self);
         }
         let m = self.modules[who];
         let node = m.node;
@@ -109,19 +133,11 @@ impl Bench {
         ensures { λ r. ⌜ r ≡ asked (isLiveIn who self) (request stream (now (payload .entry))) who self ⌝ }
     {
         if who >= Bench::PLACES {
-            return Asked {
-                bench: self,
-                there: false,
-                reply: Reply::Done,
-            };
+            return Asked::nobody(self);
         }
         let m = self.modules[who];
         if !m.live {
-            return Asked {
-                bench: self,
-                there: false,
-                reply: Reply::Done,
-            };
+            return Asked::nobody(self);
         }
         let node = m.node;
         let answer = node.request(stream, payload);
@@ -139,41 +155,21 @@ impl Bench {
         ensures { λ r. ⌜ r ≡ givingOf who frames self ⌝ }
     {
         if who >= Bench::PLACES {
-            return Gave {
-                bench: self,
-                frames: frames,
-                giving: Giving::Dead,
-                frame: Frame::NONE,
-            };
+            return Gave::none(self, frames, Giving::Dead);
         }
         let m = self.modules[who];
         if !m.live {
-            return Gave {
-                bench: self,
-                frames: frames,
-                giving: Giving::Dead,
-                frame: Frame::NONE,
-            };
+            return Gave::none(self, frames, Giving::Dead);
         }
         let mut bytes = [0u8; Frame::ROOM];
         let node = m.node;
         let answer = node.next_frame(&mut bytes);
         let reply = answer.reply;
         if reply.number() != 0 {
-            return Gave {
-                bench: self,
-                frames: frames,
-                giving: Giving::Nothing,
-                frame: Frame::NONE,
-            };
+            return Gave::none(self, frames, Giving::Nothing);
         }
         if frames.count >= Frames::MOST {
-            return Gave {
-                bench: self,
-                frames: frames,
-                giving: Giving::Full,
-                frame: Frame::NONE,
-            };
+            return Gave::none(self, frames, Giving::Full);
         }
         let id = answer.id;
         let f = Frame {

@@ -10,10 +10,10 @@ use Rattle.wire.specs.Delivered.{recordOf}
 use Rattle.wire.specs.Frames.{badFrame}
 use Rattle.wire.specs.Settings.{legal}
 use Rattle.node.specs.declared.Node.{Node}
-use Rattle.node.specs.Slots.{empty, sameBytes, first, onFirst, some}
+use Rattle.node.specs.Slots.{slotFor, empty, sameBytes, first, onFirst, some}
 use Rattle.node.specs.Nodes.{fresh, Outcome}
 use Rattle.node.specs.Clock.{Clock, period, unbounded, rolled}
-use Rattle.node.specs.SetUp.{slotFor, setUp}
+use Rattle.node.specs.SetUp.{setUp}
 use Rattle.node.specs.Hear.{hear, heardBy, deliveredAtOnce}
 use Rattle.node.specs.Tick.{tick, late, due, holdOver, lapsed, dueSlots, recordsFrom}
 use Rattle.node.specs.Request.{request, requested}

@@ -11,7 +11,7 @@ use Rattle.wire.specs.Settings.{isPlain}
 use Rattle.node.specs.declared.slots.Pending.{Pending}
 use Rattle.node.specs.declared.slots.Slot.{Slot}
 use Rattle.node.specs.declared.Node.{Node}
-use Rattle.node.specs.Slots.{payloadOf, frames, withParts}
+use Rattle.node.specs.Slots.{payloadOf, payloadGiven, confirmationGiven, abortGiven, withParts}
 use Rattle.node.specs.Nodes.{slotOf, onSlot, Outcome, Refusals, unlessRefused}
 
 -- the longest payload must fit
@@ -56,9 +56,7 @@ lowest (i ∷ is) = cond (isNone is) i (min i (lowest is))
 -- the frame with this code is pending no longer
 abbrev pub without : (code : ℕ) → Pending → Pending
 without code p =
-    cond (eqb code 1) (frames (p .payload) false (p .abort))
-    (cond (eqb code 2) (frames (p .payload) (p .confirmation) false)
-    (frames false (p .confirmation) (p .abort)))
+    cond (eqb code 1) (confirmationGiven p) (cond (eqb code 2) (abortGiven p) (payloadGiven p))
 
 unfoldable pub givenOut : (code : ℕ) → Slot → Slot
 givenOut code x = withParts x (x .message) (without code (x .pending))

@@ -11,7 +11,7 @@ use Rattle.wire.specs.Frames.{maxPayload}
 use Rattle.node.specs.declared.slots.Pending.{Pending}
 use Rattle.node.specs.declared.slots.Slot.{Slot}
 use Rattle.node.specs.declared.Node.{Node}
-use Rattle.node.specs.Slots.{holding, keeping, frames, isSender, withParts}
+use Rattle.node.specs.Slots.{holding, keeping, toSend, isSender, withParts}
 use Rattle.node.specs.Nodes.{slotOf, onSlot, Outcome, Refusals, unlessRefused, done}
 
 abbrev pub hasPending : Pending → Bool
@@ -25,7 +25,7 @@ unfoldable pub requested : (now : ℕ) → (payload : List ℕ) → Slot → Slo
 requested now payload x =
     withParts x
     (cond (isPlain (x .settings)) (keeping payload) (holding now payload))
-    (frames true (isTwoMessage (x .settings)) false)
+    (toSend (isTwoMessage (x .settings)))
 
 -- what refuses a request, at the slot of its stream
 abbrev pub requestRefusals : (payload : List ℕ) → Slot → Refusals

@@ -1,18 +1,13 @@
 -- Setting up a stream: the replies BadSettings, Taken, TableFull, in this order.
-use mathlib.Core.Bool.{true, not}
+use mathlib.Core.Bool.{not}
 use mathlib.Core.List.{[], _∷_}
 use Rattle.wire.specs.declared.ids.Stream.{Stream}
 use Rattle.wire.specs.declared.settings.Settings.{Settings}
 use Rattle.wire.specs.declared.reply.Reply.the-variants.{BadSettings, TableFull, Taken}
 use Rattle.wire.specs.Settings.{legal}
-use Rattle.node.specs.declared.slots.Slot.{Slot}
 use Rattle.node.specs.declared.Node.{Node}
-use Rattle.node.specs.Slots.{noMessage, nonePending, isFree, onFirst, some}
+use Rattle.node.specs.Slots.{slotFor, isFree, onFirst, some}
 use Rattle.node.specs.Nodes.{hasSlot, withSlots, Outcome, Refusals, unlessRefused, done}
-
--- the slot of a stream that was just set up
-abbrev pub slotFor : Stream → Settings → Slot
-slotFor s settings = record { stream = s; settings = settings; message = noMessage; pending = nonePending; used = true }
 
 -- what refuses a stream and its settings
 abbrev pub setUpRefusals : Stream → Settings → Node → Refusals

@@ -1,10 +1,11 @@
--- A slot: its parts, what changes them, and finding one in the table.
+-- A slot: its parts, what changes them, and finding one in the table. A new field of them is added here and in `src/slots.rt`.
 use Prim.Native.Nat.{ℕ}
 use mathlib.Core.Bool.{Bool, true, false, cond, not, _&&_, _||_}
 use mathlib.Core.List.{List, [], _∷_, _++_}
 use lib.ListN.{length, take, drop, replicate}
 use lib.Dec.{eqb}
 use Rattle.wire.specs.declared.ids.Stream.{Stream}
+use Rattle.wire.specs.declared.settings.Settings.{Settings}
 use Rattle.wire.specs.Settings.{noSettings, receives, sends}
 use Rattle.wire.specs.Frames.{maxPayload}
 use Rattle.node.specs.declared.slots.Message.{Message}
@@ -60,8 +61,22 @@ frames payload confirmation abort = record { payload = payload; confirmation = c
 abbrev pub nonePending : Pending
 nonePending = frames false false false
 
+-- the frame with the payload, and the confirmation where there is one
+abbrev pub toSend : (confirmation : Bool) → Pending
+toSend confirmation = frames true confirmation false
+
 abbrev pub abortPending : Pending → Pending
 abortPending p = frames (p .payload) (p .confirmation) true
+
+-- one of them given out
+abbrev pub payloadGiven : Pending → Pending
+payloadGiven p = frames false (p .confirmation) (p .abort)
+
+abbrev pub confirmationGiven : Pending → Pending
+confirmationGiven p = frames (p .payload) false (p .abort)
+
+abbrev pub abortGiven : Pending → Pending
+abortGiven p = frames (p .payload) (p .confirmation) false
 
 -- no stream is set up here
 abbrev pub empty : Slot
@@ -73,6 +88,10 @@ empty =
       pending = nonePending;
       used = false;
     }
+
+-- the slot of a stream that was just set up
+abbrev pub slotFor : Stream → Settings → Slot
+slotFor s settings = record { stream = s; settings = settings; message = noMessage; pending = nonePending; used = true }
 
 abbrev pub isFree : Slot → Bool
 isFree x = not (x .used)

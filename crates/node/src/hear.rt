@@ -43,13 +43,7 @@ impl Slot {
             self.message = m;
             return self;
         }
-        let m = Message {
-            stamp: counter,
-            len: payload.len() as u8,
-            held: true,
-            confirmed: false,
-            bytes: pad(payload),
-        };
+        let m = Message::holding(counter, payload);
         self.message = m;
         self
     }

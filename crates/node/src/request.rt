@@ -4,7 +4,6 @@ use crate::Node;
 use crate::slots::Message;
 use crate::slots::Pending;
 use crate::slots::Slot;
-use crate::slots::pad;
 use wire::ids::Stream;
 use wire::reply::Reply;
 use wire::settings::Settings;
@@ -35,11 +34,7 @@ impl Slot {
         ensures { λ r. ⌜ r ≡ requested counter (now (payload .entry)) self ⌝ }
     {
         let m = message_for(self.settings.class == Settings::PLAIN, counter, payload);
-        let p = Pending {
-            payload: true,
-            confirmation: self.settings.class == Settings::TWO_MESSAGE,
-            abort: false,
-        };
+        let p = Pending::to_send(self.settings.class == Settings::TWO_MESSAGE);
         self.message = m;
         self.pending = p;
         self
@@ -51,24 +46,10 @@ fn message_for(plain: bool, counter: u16, payload: &[u8]) -> Message
     requires { ⌜ length (now payload) ≤ maxPayload ⌝ }
     ensures { λ r. ⌜ r ≡ cond plain (keeping (now (payload .entry))) (holding counter (now (payload .entry))) ⌝ }
 {
-    let len = payload.len() as u8;
-    let bytes = pad(payload);
     if plain {
-        return Message {
-            stamp: 0,
-            len: len,
-            held: false,
-            confirmed: false,
-            bytes: bytes,
-        };
+        return Message::keeping(payload);
     }
-    Message {
-        stamp: counter,
-        len: len,
-        held: true,
-        confirmed: false,
-        bytes: bytes,
-    }
+    Message::holding(counter, payload)
 }
 
 impl Node {

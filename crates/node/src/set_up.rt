@@ -1,8 +1,6 @@
 // Setting up a stream.
 use crate::Answered;
 use crate::Node;
-use crate::slots::Message;
-use crate::slots::Pending;
 use crate::slots::Slot;
 use wire::ids::Stream;
 use wire::reply::Reply;
@@ -10,24 +8,9 @@ use wire::settings::Settings;
 ghost use mathlib.Core.Path.{_≡_};
 ghost use mathlib.Core.List.{List};
 ghost use Rattle.node.specs.Nodes.{asAnswered};
-ghost use Rattle.node.specs.SetUp.{slotFor, setUp};
+ghost use Rattle.node.specs.SetUp.{setUp};
 ghost use Rattle.node.specs.Clock.{rolled, unbounded};
 ghost use Rattle.node.specs.Calls.{Call, after, rollOutcome};
-
-impl Slot {
-    // The slot of a stream that was just set up.
-    pub fn set_up(stream: Stream, settings: Settings) -> Slot
-        ensures { λ r. ⌜ r ≡ slotFor stream settings ⌝ }
-    {
-        Slot {
-            stream: stream,
-            settings: settings,
-            message: Message::NONE,
-            pending: Pending::NONE,
-            used: true,
-        }
-    }
-}
 
 impl Node {
     // Gives a stream a slot, with its settings.

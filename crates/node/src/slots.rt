@@ -1,11 +1,13 @@
-// A slot: a stream with its settings, the message it holds, and its pending frames.
+// A slot: a stream with its settings, the message it holds, and its pending frames. Each is made here, wherever it is made: a
+// new field is added here and in `specs/Slots.antt`.
 use wire::ids::Stream;
 use wire::settings::Settings;
 ghost use mathlib.Core.Path.{_≡_};
-ghost use Prim.Native.Nat.{min};
+ghost use Prim.Native.Nat.{_≤_, min};
 ghost use lib.ListN.{length, take};
 ghost use Rattle.wire.specs.Frames.{maxPayload};
-ghost use Rattle.node.specs.Slots.{empty, padded, payloadOf, same, isFree, isOf, isReceiver, isSender};
+ghost use Rattle.node.specs.Slots.{padded, holding, keeping, payloadOf, same, toSend};
+ghost use Rattle.node.specs.Slots.{empty, slotFor, isFree, isOf, isReceiver, isSender};
 ghost use Rattle.node.specs.Request.{hasPending};
 
 #[repr(C)]
@@ -29,6 +31,34 @@ impl Message {
         confirmed: false,
         bytes: [0; Message::MAX_LEN],
     };
+
+    // Taken up at this moment, unconfirmed.
+    pub(crate) fn holding(counter: u16, payload: &[u8]) -> Message
+        requires { ⌜ length (now payload) ≤ maxPayload ⌝ }
+        ensures { λ r. ⌜ r ≡ holding counter (now (payload .entry)) ⌝ }
+    {
+        Message {
+            stamp: counter,
+            len: payload.len() as u8,
+            held: true,
+            confirmed: false,
+            bytes: pad(payload),
+        }
+    }
+
+    // Not held, and kept for the frame that is pending.
+    pub(crate) fn keeping(payload: &[u8]) -> Message
+        requires { ⌜ length (now payload) ≤ maxPayload ⌝ }
+        ensures { λ r. ⌜ r ≡ keeping (now (payload .entry)) ⌝ }
+    {
+        Message {
+            stamp: 0,
+            len: payload.len() as u8,
+            held: false,
+            confirmed: false,
+            bytes: pad(payload),
+        }
+    }
 
     // The length of the payload, which has at most eight bytes.
     pub fn payload_length(self) -> usize
@@ -99,6 +129,17 @@ impl Pending {
         abort: false,
     };
 
+    // The frame with the payload, and the confirmation where there is one.
+    pub(crate) fn to_send(confirmation: bool) -> Pending
+        ensures { λ r. ⌜ r ≡ toSend confirmation ⌝ }
+    {
+        Pending {
+            payload: true,
+            confirmation,
+            abort: false,
+        }
+    }
+
     // Whether any frame is pending.
     pub fn any(self) -> bool
         ensures { λ r. ⌜ r ≡ hasPending self ⌝ }
@@ -129,6 +170,19 @@ impl Slot {
         ensures { λ r. ⌜ r ≡ empty ⌝ }
     {
         Slot::EMPTY
+    }
+
+    // The slot of a stream that was just set up.
+    pub fn set_up(stream: Stream, settings: Settings) -> Slot
+        ensures { λ r. ⌜ r ≡ slotFor stream settings ⌝ }
+    {
+        Slot {
+            stream: stream,
+            settings: settings,
+            message: Message::NONE,
+            pending: Pending::NONE,
+            used: true,
+        }
     }
 
     pub fn is_free(self) -> bool

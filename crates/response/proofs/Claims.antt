@@ -1,5 +1,5 @@
 -- Claims on the bus: their bounds, and that they never fall as the waiting time grows.
-use mathlib.Core.Path.{_≡_, refl, ap}
+use mathlib.Core.Path.{_≡_, ap}
 use mathlib.Core.List.{List}
 use Prim.Native.Nat.{ℕ, zero, suc, _+_, _-_, _*_, _/_, _≤_, _<_}
 use native.Mathlib.Nat.{zero-mul, add-zero, div-le-self, div-mul-le-self, le-div-iff-mul-le, lt-div-mul-add, div-le-of-le-mul}
@@ -9,7 +9,7 @@ use native.Mathlib.Omega.{arith}
 use lib.ListN.{getD}
 use Rattle.response.specs.Streams.{most}
 use Rattle.response.specs.Waiting.{ceiling}
-use Rattle.response.specs.Recurrence.{sumTo, claimed, asked, Claim, Ready, whole, ClaimedFrom, AskedFrom, NoneBelow}
+use Rattle.response.specs.Recurrence.{claimed, asked, Claim, Ready, whole, ClaimedFrom, AskedFrom, NoneBelow}
 
 -- what a claim in range asks at most, within the waiting times in range
 abbrev pub mostClaimed : ℕ
@@ -62,7 +62,8 @@ claimed-share {cost} {period} {lead} q w = record {
 
 module _ (costs periods leads : List ℕ) where
   -- one claim more
-  pub asked-more : (n w : ℕ) → asked costs periods leads (n + 1) w ≡ asked costs periods leads n w + claimed (getD costs n 0) (getD periods n 0) (getD leads n 0) w
+  pub asked-more : (n w : ℕ)
+      → asked costs periods leads (n + 1) w ≡ asked costs periods leads n w + claimed (getD costs n 0) (getD periods n 0) (getD leads n 0) w
   unfolding asked
   asked-more n w = rw add-one
 

@@ -5,15 +5,15 @@ use mathlib.Core.List.{List, [], _∷_}
 use Prim.Native.Nat.{ℕ, zero, suc, _+_, _*_, _≤_, _<_}
 use native.Mathlib.Nat.{mul-le-mul, mul-zero, mul-assoc, mul-left-comm, max-le, not-suc-le-zero}
 use native.Mathlib.Omega.{arith}
-use lib.ListN.{length, getD, set, take, replicate, length-set, getD-replicate, length-replicate}
+use lib.ListN.{length, getD, set, take, replicate, length-set, getD-replicate}
 use lib.Seq.{getD-set-same, getD-set-other}
 use lib.Dec.{eqb}
 use borrow.Author.Count.{below-more}
 use Rattle.response.specs.declared.streams.StreamRecord.{StreamRecord}
 use Rattle.response.specs.declared.streams.Errors.{Errors}
-use Rattle.response.specs.Streams.{most, at, legalRecord, legalErrors, legalRecords, LegalRecord, LegalErrors}
+use Rattle.response.specs.Streams.{most, at, legalRecord, legalErrors, legalRecords, LegalRecord}
 use Rattle.response.specs.Waiting.{ceiling, goesBefore, blocking, interference, demand, solves, timely}
-use Rattle.response.specs.Recurrence.{sumTo, claimed, claimAt, asked, solvesWith, Claim, ClaimsOf}
+use Rattle.response.specs.Recurrence.{sumTo, claimAt, asked, solvesWith, Claim, ClaimsOf}
 use Rattle.response.proofs.Limits.{record-tells, errors-tell, records-tell}
 use Rattle.response.proofs.Claims.{asked-more}
 use Rattle.response.proofs.Listed.{listed-length, listed-at, legal-listed}
@@ -85,7 +85,8 @@ pub errors-most : (errors : Errors) → legalErrors errors ≡ true → errors .
 errors-most errors legal-e = let e = errors-tell errors .says legal-e in mul-le-mul (e .n) (e .inaccessibility)
 
 -- ── with the claim of the errors behind them ──
-module _ (streams : List StreamRecord) (errors : Errors) (s : StreamRecord) (len : ℕ) (costs periods : List ℕ) (small : len ≤ 64) (fits : len ≤ length streams)
+module _ (streams : List StreamRecord) (errors : Errors) (s : StreamRecord) (len : ℕ) (costs periods : List ℕ) (small : len ≤ 64)
+    (fits : len ≤ length streams)
     (legal-streams : legalRecords (take len streams) ≡ true) (legal-s : legalRecord s ≡ true) (legal-e : legalErrors errors ≡ true)
     (g : Gathered streams s len costs periods) where
   abbrev costs⁺ : List ℕ

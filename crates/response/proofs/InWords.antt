@@ -6,9 +6,8 @@ use Prim.Native.Nat.{ℕ, zero, suc, _+_, _*_, _≤_, _<_}
 use native.Mathlib.Nat.{not-suc-le-zero, le-of-suc-le-suc}
 use native.Mathlib.Omega.{arith}
 use lib.ListN.{length, getD}
-use lib.Dec.{eqb, ltb}
-use borrow.Author.Tests.{eqb-true, eq-eqb, ltb-true, ltb-false, lt-ltb}
-use Rattle.wire.specs.Tells.{Tells}
+use lib.Dec.{ltb}
+use borrow.Author.Tests.{eqb-true, eq-eqb, ltb-true, ltb-false}
 use Rattle.response.specs.declared.streams.StreamRecord.{StreamRecord}
 use Rattle.response.specs.declared.streams.Errors.{Errors}
 use Rattle.response.specs.declared.verdict.Verdict.the-variants.{Done, ShortOutput, BadStream, Late}
@@ -111,7 +110,8 @@ module _ (streams : List StreamRecord) (errors : Errors) where
       by-deadlines taken false e = all (times streams streams errors) taken (times-tell room (ltb-false _ _ e))
 
       by-room : Legal streams errors → (b : Bool) → ltb room (2 * length streams) ≡ b
-          → Judged streams errors room (cond b ShortOutput (allTimely streams errors)) (ifDone (cond b ShortOutput (allTimely streams errors)) (times streams streams errors))
+          → Judged streams errors room (cond b ShortOutput (allTimely streams errors))
+          (ifDone (cond b ShortOutput (allTimely streams errors)) (times streams streams errors))
       by-room ok true e = short ok (ltb-true _ _ e)
       by-room ok false e = by-deadlines (record { legal = ok; fits = ltb-false _ _ e }) (ltb (firstLate streams streams errors) (length streams)) refl
 

@@ -1,9 +1,8 @@
 -- The test of a list is true exactly where every number is within its limits and all priorities are different.
-use mathlib.Core.Path.{_≡_, refl}
-use mathlib.Core.Bool.{true, not, _&&_}
+use mathlib.Core.Path.{refl}
 use mathlib.Core.Logic.{_≢_}
 use mathlib.Core.List.{List, [], _∷_}
-use Prim.Native.Nat.{ℕ, zero, suc, _≤_, _<_}
+use Prim.Native.Nat.{ℕ, zero, suc, _<_}
 use native.Mathlib.Nat.{not-suc-le-zero, le-of-suc-le-suc}
 use native.Mathlib.Omega.{arith}
 use lib.ListN.{length}
@@ -11,7 +10,8 @@ use Rattle.wire.specs.Tells.{Tells, at-most, different, in-words, _and_}
 use Rattle.wire.specs.Settings.{Between}
 use Rattle.response.specs.declared.streams.StreamRecord.{StreamRecord}
 use Rattle.response.specs.declared.streams.Errors.{Errors}
-use Rattle.response.specs.Streams.{most, mostStreams, mostErrors, mostInaccessibility, inRange, legalRecord, legalErrors, unused, legalRecords, legal, at}
+use Rattle.response.specs.Streams.{most, mostStreams, mostErrors, mostInaccessibility}
+use Rattle.response.specs.Streams.{inRange, legalRecord, legalErrors, unused, legalRecords, legal, at}
 use Rattle.response.specs.Streams.{LegalRecord, LegalErrors, LegalRecords, Legal}
 
 in-range : (n : ℕ) → Tells (inRange n) (Between 1 n most)

@@ -1,6 +1,6 @@
 -- Why the recurrence finds the least solution of w ≡ f w, where f never falls: it goes up from a number that no solution lies below,
 -- passes none, and stops only at one.
-use mathlib.Core.Path.{_≡_, refl, sym}
+use mathlib.Core.Path.{_≡_, refl}
 use mathlib.Core.Bool.{Bool, true, false}
 use Prim.Native.Nat.{ℕ, zero, suc, _≤_, _<_}
 use native.Mathlib.Omega.{arith}

@@ -53,7 +53,8 @@ module _ (streams : List StreamRecord) where
   filled-is zero h small = paste-zero blanks 0 streams
   filled-is (suc k) h small =
       rw (lt-ltb k places (omega arith), filled-is k (omega arith) (omega arith))
-      (ap (λ (j : ℕ). set (paste blanks 0 streams k) j (at streams k)) (sym (zero-add k)) ∙ paste-suc blanks 0 streams k blank (rw zero-add (omega arith)) (omega arith))
+      (ap (λ (j : ℕ). set (paste blanks 0 streams k) j (at streams k)) (sym (zero-add k))
+      ∙ paste-suc blanks 0 streams k blank (rw zero-add (omega arith)) (omega arith))
 
   pub table-is : tableOf streams .streams ≡ paste blanks 0 streams (goesIn streams)
   unfolding tableOf

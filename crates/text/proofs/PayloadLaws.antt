@@ -5,12 +5,12 @@ use native.Mathlib.Numerals.{add-one}
 use native.Mathlib.Omega.{arith}
 use mathlib.Core.Path.{_≡_, refl, sym, ap, _∙_}
 use mathlib.Core.Bool.{Bool, true, false, cond, _&&_, true≢false}
-use mathlib.Core.List.{List, [], _∷_, _++_, append-nil, append-assoc}
+use mathlib.Core.List.{List, [], _∷_, _++_, append-assoc}
 use lib.Dec.{ltb, leb, eqb}
-use lib.ListN.{length, take, drop, getD, set, replicate}
-use lib.ListN.{length-append, length-replicate, length-drop, length-set, take-append-drop, drop-of-length-le}
-use lib.Seq.{take-append-seam, take-suc, take-suc-set, drop-cons, drop-drop, drop-set-lt, length-take-le}
-use borrow.Author.Tests.{lt-ltb, le-leb, lt-leb, leb-true, ne-eqb, eqb-true}
+use lib.ListN.{length, take, drop, getD, set}
+use lib.ListN.{length-drop, length-set, take-append-drop, drop-of-length-le}
+use lib.Seq.{take-suc, take-suc-set, drop-cons, drop-drop, drop-set-lt}
+use borrow.Author.Tests.{lt-ltb, le-leb, lt-leb, leb-true, eqb-true}
 use Rattle.io.specs.Digits.{glyph}
 use Rattle.text.specs.declared.words.Word.{Word}
 use Rattle.text.specs.declared.payloads.Payload.{Payload}

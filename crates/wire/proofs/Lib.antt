@@ -8,3 +8,5 @@ pub mod Records
 pub mod Replies
 pub mod Unique
 pub mod Variants
+pub mod Walking
+pub mod WorkedFrames

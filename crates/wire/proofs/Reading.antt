@@ -14,7 +14,8 @@ use Rattle.wire.specs.declared.ids.Stream.{Stream}
 use Rattle.wire.specs.declared.delivered.RecordAt.{RecordAt}
 use Rattle.wire.specs.declared.delivered.Fault.the-variants.{Cut, OtherKind, OtherLength}
 use Rattle.wire.specs.Frames.{maxPayload}
-use Rattle.wire.specs.Delivered.{littleEndian, deliveredKind, recordOf, over, fitting, numberAt, following, isCut, otherLength, recordFound, noRecord, recordAt}
+use Rattle.wire.specs.Delivered.{littleEndian, deliveredKind, recordOf, over, fitting, numberAt, following}
+use Rattle.wire.specs.Delivered.{isCut, otherLength, recordFound, noRecord, recordAt}
 use Rattle.wire.specs.Delivered.{recordsOf, messageIn, messagesAt, Writable, no-message, one-more, AreBytes}
 use Rattle.wire.proofs.Frames.{neither}
 use Rattle.wire.proofs.Records.{record-length, does-fit}

@@ -9,11 +9,11 @@ use Rattle.wire.specs.declared.settings.Settings.{Settings}
 use Rattle.wire.specs.Identifiers.{streamOf, codeOf}
 use Rattle.node.specs.declared.slots.Slot.{Slot}
 use Rattle.node.specs.declared.Node.{Node}
-use Rattle.node.specs.Slots.{noMessage, released, abortPending, empty, isFree, isOf, isReceiver, isSender, withParts, withMessage}
+use Rattle.node.specs.Slots.{slotFor, noMessage, released, abortPending, empty, isFree, isOf, isReceiver, isSender, withParts, withMessage}
 use Rattle.node.specs.Nodes.{fresh, slotCount, slotOf, Outcome}
 use Rattle.node.specs.Reachable.{All}
 use Rattle.node.specs.Clock.{Clock, unbounded}
-use Rattle.node.specs.SetUp.{setUp, slotFor}
+use Rattle.node.specs.SetUp.{setUp}
 use Rattle.node.specs.Request.{request, requested}
 use Rattle.node.specs.NextFrame.{nextFrame, give, givenOut, pendingIds}
 use Rattle.node.specs.Selection.{lowestOrAbove}

@@ -6,29 +6,26 @@ use native.Mathlib.Decide.{decLe}
 use mathlib.Core.Path.{_≡_, refl, sym, subst, _∙_}
 use mathlib.Core.Bool.{Bool, true, false, not, _&&_, _||_, cond}
 use mathlib.Core.List.{List, []}
-use lib.ListN.{length}
-use lib.Dec.{T, leb, ltb, eqb, eqb-refl, T-not}
+use lib.Dec.{T, eqb, eqb-refl, T-not}
 use Rattle.wire.specs.declared.ids.Stream.{Stream}
-use Rattle.wire.specs.Frames.{maxPayload}
 use Rattle.wire.specs.Identifiers.{codeOf}
 use Rattle.wire.specs.Settings as wire
 use Rattle.node.specs.declared.slots.Slot.{Slot}
 use Rattle.node.specs.declared.Node.{Node}
 use Rattle.node.specs.Slots.{isSender}
 use Rattle.node.specs.Nodes.{slotOf}
-use Rattle.node.specs.Request.{busy}
 use Rattle.node.specs.Reachable.{Kept}
 use Rattle.node.proofs.kept.EveryCall.{kept}
 use Rattle.node.proofs.slots.Streams.{Kind, kindOf}
-use Rattle.one_stream.proofs.Truth.{and-l, and-r, both, is-true, so}
-use Rattle.bench.specs.Lists.{nth, every}
-use Rattle.bench.specs.SetUp.{Entry, Part, Plan, setUps, isDone, sameNumbers, agree, allAgree, allEntries, accepted, isSent, proper, start}
+use Rattle.one_stream.proofs.Truth.{and-r, both, is-true, so}
+use Rattle.bench.specs.Lists.{nth}
+use Rattle.bench.specs.SetUp.{Entry, Part, Plan, setUps, sameNumbers, agree, proper, start}
 use Rattle.bench.specs.Bench as Bench
-use Rattle.bench.specs.Bench.{Bench, Book, moduleAt, isLive, slotAt, sameStream, ownerOf}
-use Rattle.bench.specs.Events.{Event, step, isAccepted, asked, isNext, whichOf}
-use Rattle.bench.proofs.laws.SlotAfterCall.{ask-reply, giving, slot-kept, IsPending, thePayload, theConfirmation, theAbort, next-used, next-pending}
-use Rattle.bench.proofs.laws.ModuleAfterEvent.{moved-step, next-done}
-use Rattle.bench.proofs.message.PlanGives.{In, FromPlan, noEntry, entry, from-plan, plan-agrees, node-at}
+use Rattle.bench.specs.Bench.{Bench, Book, moduleAt, slotAt, sameStream, ownerOf}
+use Rattle.bench.specs.Events.{Event, step, isAccepted, isNext, whichOf}
+use Rattle.bench.proofs.laws.SlotAfterCall.{giving, slot-kept, IsPending, thePayload, theConfirmation, theAbort, next-used, next-pending}
+use Rattle.bench.proofs.laws.ModuleAfterEvent.{accepted-facts, moved-step, next-done}
+use Rattle.bench.proofs.message.PlanGives.{In, FromPlan, noEntry, entry, from-plan, proper-agrees, plan-agrees, node-at}
 
 -- ── one sender ──
 -- an entry of a part makes its module send the stream
@@ -66,22 +63,17 @@ abbrev pub Sends : Plan → Stream → ℕ → Type 0
 Sends plan z i = T (isSender (slotAt z i (start plan)))
 
 module _ (plan : Plan) (ok : T (proper plan)) (z : Stream) where
-  agrees : T (allAgree plan)
-  unfolding proper
-  agrees =
-      let sizes = leb 2 (length plan) && leb (length plan) 8 in
-      let sent = every (λ (e : Entry). isSent plan (e .stream)) (allEntries plan) in
-      and-r (sizes && every accepted plan) (allAgree plan) (and-l (sizes && every accepted plan && allAgree plan) sent ok)
-
   sends-by : (i : ℕ) → Sends plan z i → SendEntry z (nth [] i plan)
   unfolding start
-  sends-by i = send-entry z (nth [] i plan) (subst (λ (n : Node). FromPlan z (nth [] i plan) (slotOf z n)) (sym (node-at plan i)) (from-plan z (nth [] i plan)))
+  sends-by i =
+      send-entry z (nth [] i plan)
+      (subst (λ (n : Node). FromPlan z (nth [] i plan) (slotOf z n)) (sym (node-at plan i)) (from-plan z (nth [] i plan)))
 
   never-later : (i j : ℕ) → i < j → Sends plan z i → Sends plan z j → ⊥
   never-later i j h s t =
       let x = sends-by i s in
       let y = sends-by j t in
-      not-both-send z (nth [] i plan) (nth [] j plan) x y (plan-agrees plan agrees i j h (x .entry-is) (y .entry-is) (x .there) (y .there))
+      not-both-send z (nth [] i plan) (nth [] j plan) x y (plan-agrees plan (proper-agrees plan ok) i j h (x .entry-is) (y .entry-is) (x .there) (y .there))
 
   pub one-sender : (i j : ℕ) → Sends plan z i → Sends plan z j → i ≡ j
   one-sender i j s t = go (decLe i j) (decLe j i)
@@ -113,12 +105,7 @@ module _ (plan : Plan) (b : Bench) (x : AsPlanned plan b) where
 
   -- who takes a request sends the stream
   pub asked-sends : (j : ℕ) (z : Stream) (p : List ℕ) → T (isAccepted j z p b) → Sends plan z j
-  asked-sends j z p t =
-      let y = slotAt z j b in
-      planned-sender z j
-      (and-l (isSender y) (not (busy y))
-      (and-r (not (ltb maxPayload (length p))) (isSender y && not (busy y))
-      (subst T (ask-reply z p (moduleAt j b .node)) (and-r (isLive j b) (isDone (asked j z p b .reply)) t))))
+  asked-sends j z p t = planned-sender z j (so (accepted-facts b j z p t .own))
 
   -- who gives out a frame of a book whose sender sends the stream owns the frame
   pub giver-owns : T (proper plan) → (j : ℕ) (z : Stream) (c : ℕ) → T (isNext j z c b) → (k : Book) → Sends plan z (k .sender)

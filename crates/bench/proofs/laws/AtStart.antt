@@ -1,16 +1,14 @@
 -- The bench when all is set up: no tick was counted, nothing delivered, and no frame given out.
 use Prim.Native.Nat.{ℕ, zero, suc}
 use mathlib.Core.Path.{_≡_, refl}
-use mathlib.Core.Bool.{not}
 use mathlib.Core.List.{[], _∷_}
-use Rattle.wire.specs.Settings.{legal}
 use Rattle.node.specs.declared.Node.{Node}
 use Rattle.node.specs.Clock.{unbounded}
-use Rattle.node.specs.Slots.{isFree, some}
-use Rattle.node.specs.Nodes.{fresh, hasSlot}
+use Rattle.node.specs.Nodes.{Outcome, fresh}
 use Rattle.node.specs.SetUp.{setUp}
 use Rattle.node.specs.Calls.{afterFrom}
-use Rattle.node.proofs.Choices.{unless}
+use Rattle.node.proofs.Cases.{by-case}
+use Rattle.node.proofs.set_up.Cases.{set-up-cases}
 use Rattle.bench.specs.Bench.{Module, noModule, moduleAt}
 use Rattle.bench.specs.SetUp.{Part, Plan, setUps, moduleFor, start}
 use Rattle.bench.proofs.laws.ModuleAfterEvent.{countOf}
@@ -27,13 +25,10 @@ log-at-start = start-elim (λ (m : Module). m .log ≡ []) refl (λ part. refl)
 
 -- setting up counts no tick
 set-up-counter : (n : Node) → n .counter ≡ 0 → (part : Part) → afterFrom unbounded n (setUps part) .counter ≡ 0
-unfolding setUp
 set-up-counter n zero-count [] = zero-count
 set-up-counter n zero-count (e ∷ part) =
     set-up-counter (setUp (e .stream) (e .settings) n .node)
-    (unless (λ n. n .counter ≡ 0) n (not (legal (e .stream) (e .settings))) _ _ zero-count λ ok.
-    unless (λ n. n .counter ≡ 0) n (hasSlot (e .stream) n) _ _ zero-count λ new.
-    unless (λ n. n .counter ≡ 0) n (not (some isFree (n .slots))) _ _ zero-count λ room. zero-count)
+    (by-case (λ (o : Outcome). o .node .counter ≡ 0) (λ r why. zero-count) (λ h. zero-count) (set-up-cases (e .stream) (e .settings) n .case))
     part
 
 pub count-at-start : (plan : Plan) (i : ℕ) → countOf (start plan) i ≡ 0

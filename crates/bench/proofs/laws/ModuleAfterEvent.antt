@@ -12,29 +12,28 @@ use Rattle.wire.specs.declared.ids.Stream.{Stream}
 use Rattle.wire.specs.declared.ids.BusId.{BusId}
 use Rattle.node.specs.declared.slots.Slot.{Slot}
 use Rattle.node.specs.declared.Node.{Node}
-use Rattle.wire.specs.Classes.{carries}
-use Rattle.wire.specs.Frames.{badFrame}
 use Rattle.wire.specs.Identifiers.{streamOf, codeOf}
 use Rattle.wire.specs.Settings.{receives}
 use Rattle.node.specs.Calls.{hear, tick, request, nextFrame}
 use Rattle.node.specs.Clock.{unbounded}
-use Rattle.node.specs.Hear.{clashes, heardBy}
+use Rattle.node.specs.Hear.{heardBy}
 use Rattle.node.specs.Nodes.{slotOf}
 use Rattle.node.specs.Reachable.{Kept}
 use Rattle.node.specs.Slots.{isReceiver}
-use Rattle.node.proofs.Choices.{into, either-way}
+use Rattle.node.proofs.Choices.{into, either-way, contrary}
+use Rattle.node.proofs.request.Cases.{RequestFacts}
 use Rattle.node.proofs.kept.EveryCall.{kept-by}
 use Rattle.node.proofs.slots.Streams.{kindOf, heard-keeps, lapsed-keeps, requested-keeps, given-out-keeps}
-use Rattle.one_stream.proofs.Truth.{cond-elim, cond-false, and-l, and-r, both, is-true, so, not-so}
+use Rattle.one_stream.proofs.Truth.{cond-elim, cond-false, and-l, and-r, both, is-true, so}
 use Rattle.bench.specs.Bench.{Module, Bench, Frame, noModule, moduleAt, isLive, counts, now, bookOf, frameOf, ownerOf, Delivery}
-use Rattle.bench.specs.Bench.{sameStream}
+use Rattle.bench.specs.Bench.{slotAt, sameStream}
 use Rattle.bench.specs.Events.{Event, asks, gives, sends, ticks, dies, step, ticked, dead, hears, named, isAccepted, isNext, opened}
 use Rattle.bench.specs.Events.{gave, withNode, atOnce, lent, onto, deliveries, asked, next}
 use Rattle.bench.specs.Lists.{nth, at}
 use Rattle.bench.specs.SetUp.{isDone}
-use Rattle.bench.proofs.laws.SlotAfterCall.{Same, same-stream, slot-kept, takes, hearing, hear-own, hear-other, ticking}
+use Rattle.bench.proofs.laws.SlotAfterCall.{Same, same-stream, slot-kept, takes, taken-facts, hearing, hear-own, hear-other, ticking}
 use Rattle.bench.proofs.laws.SlotAfterCall.{tick-slot, asking, accepts, ask-own, ask-other, hear-counter, tick-counter, ask-counter}
-use Rattle.bench.proofs.laws.SlotAfterCall.{giving, next-own, next-other, next-counter, onStream}
+use Rattle.bench.proofs.laws.SlotAfterCall.{asked-facts, giving, next-own, next-other, next-counter, onStream}
 use Rattle.bench.proofs.laws.ListPlaces.{nth-there, nth-each, length-each}
 
 -- ── lists ──
@@ -184,14 +183,10 @@ deaf s id bytes n e = go (decide-stream s (streamOf id))
     go (inl q) =
         subst (λ z. slotOf z (hearing id bytes n .node) ≡ slotOf z n) (sym q)
         (hear-own id bytes n ∙ cond-false (takes id (length bytes) bytes x) (heardBy (n .counter) (codeOf id) bytes x) x
-        (λ t. not-so (subst (λ z. isReceiver (slotOf z n) ≡ false) q e)
-        (and-l (isReceiver x) fits (and-r (not (badFrame id (length bytes) (length bytes))) (isReceiver x && fits) t))))
+        (λ t. contrary (taken-facts id bytes x (is-true (takes id (length bytes) bytes x) t) .own) (subst (λ z. isReceiver (slotOf z n) ≡ false) q e)))
       where
         x : Slot
         x = slotOf (streamOf id) n
-
-        fits : Bool
-        fits = carries (x .settings .class) (codeOf id) && not (clashes (codeOf id) bytes x)
 
 -- an abort is pending at receivers alone
 pub pending-receives : (s : Stream) (n : Node) → Kept n → T (slotOf s n .pending .abort) → T (isReceiver (slotOf s n))
@@ -232,6 +227,10 @@ pub next-lives : (b : Bench) (j : ℕ) (z : Stream) (c : ℕ) → T (isNext j z 
 next-lives b j z c t =
     and-l (isLive j b) (isDone (next j b .reply)) (and-l (isLive j b && isDone (next j b .reply)) (sameStream (streamOf (next j b .id)) z)
     (and-l (isLive j b && isDone (next j b .reply) && sameStream (streamOf (next j b .id)) z) (eqb (codeOf (next j b .id)) c) t))
+
+-- what led to a request that was accepted
+pub accepted-facts : (b : Bench) (j : ℕ) (z : Stream) (p : List ℕ) → T (isAccepted j z p b) → RequestFacts p (slotAt z j b)
+accepted-facts b j z p t = asked-facts z p (moduleAt j b .node) (and-r (isLive j b) (isDone (asked j z p b .reply)) t)
 
 pub next-done : (b : Bench) (j : ℕ) (z : Stream) (c : ℕ) → T (isNext j z c b)
     → T (isDone (next j b .reply)) × (streamOf (next j b .id) ≡ z) × (codeOf (next j b .id) ≡ c)

@@ -3,7 +3,7 @@ use Prim.Native.Nat.{ℕ, _+_}
 use native.Mathlib.Omega.{arith}
 use mathlib.Core.Path.{_≡_, refl, ap, sym, _∙_}
 use mathlib.Core.Bool.{Bool, true, false, cond}
-use mathlib.Core.List.{List, [], _∷_, _++_, map, append-nil}
+use mathlib.Core.List.{List, [], _∷_, map, append-nil}
 use lib.ListN.{length}
 use lib.Dec.{eqb}
 use borrow.Author.Tests.{ne-eqb}
@@ -17,16 +17,11 @@ use Rattle.node.specs.Nodes.{Outcome, slotOf}
 use Rattle.node.specs.Clock.{Clock}
 use Rattle.node.specs.Hear.{deliveredAtOnce}
 use Rattle.node.specs.Tick.{recordsFrom, dueSlots}
-use Rattle.bench.specs.Bench.{Delivery, Frame, Module}
+use Rattle.bench.specs.Bench.{Delivery, Frame, Module, recordsOf}
 use Rattle.bench.specs.Events.{lent, deliveries, heard, atOnce}
 use Rattle.node.specs.Calls.{tick, outcome}
 use Rattle.node.proofs.tick.Cases.{tick-cases}
 use Rattle.bench.proofs.laws.SlotAfterCall.{takes, hearing, hears, deliveryOf}
-
--- one after the other, the first first
-abbrev pub recordsOf : List Delivery → List ℕ
-recordsOf [] = []
-recordsOf (d ∷ ds) = recordOf (d .stream) (d .payload) ++ recordsOf ds
 
 -- ── a tick, by either clock ──
 records-of-slots : (t : ℕ) (xs : List Slot) → recordsFrom xs ≡ recordsOf (map (deliveryOf t) xs)

@@ -4,7 +4,7 @@ use Prim.Native.Nat.{ℕ, _+_, _-_, _*_, _/_, _%_, _≤_}
 use native.Mathlib.Omega.{arith}
 use mathlib.Core.Path.{_≡_, refl, ap, sym, subst, _∙_}
 use mathlib.Core.Logic.{_⊎_, inl, inr}
-use mathlib.Core.Bool.{Bool, true, false, _&&_, _||_, cond}
+use mathlib.Core.Bool.{Bool, true, false, not, _&&_, _||_, cond}
 use mathlib.Core.List.{List, [], _∷_, _++_, map}
 use lib.ListN.{length}
 use lib.Dec.{T, leb, eqb, eqb-refl, eqb→eq}
@@ -13,19 +13,21 @@ use Rattle.wire.specs.declared.ids.Stream.{Stream}
 use Rattle.wire.specs.declared.ids.BusId.{BusId}
 use Rattle.node.specs.declared.slots.Slot.{Slot}
 use Rattle.node.specs.declared.Node.{Node}
+use Rattle.wire.specs.Classes.{carries}
+use Rattle.wire.specs.Frames.{badFrame}
 use Rattle.wire.specs.Identifiers.{maxStream, maxBusId, streamOf, codeOf}
 use Rattle.wire.specs.Settings.{receives, sends, isPlain}
 use Rattle.node.specs.Calls.{hear, tick, request, nextFrame, outcome}
 use Rattle.node.specs.Clock.{unbounded}
-use Rattle.node.specs.Hear.{heardBy, deliveredAtOnce}
+use Rattle.node.specs.Hear.{clashes, heardBy, deliveredAtOnce}
 use Rattle.node.specs.NextFrame.{one, idsFrom, pendingCodes, pendingIds, pendingIn, payloadCode, give, givenOut, payloadFor}
 use Rattle.node.specs.Selection.{lowestOrAbove}
 use Rattle.node.specs.Nodes.{slotOf, onSlot, Outcome}
 use Rattle.node.specs.Reachable.{KeptSlot, All, Distinct, Kept}
 use Rattle.node.specs.Request.{requested}
-use Rattle.node.specs.Slots.{empty, payloadOf, isOf, first, onFirst, some}
-use Rattle.node.specs.Tick.{due, tickSlot, dueSlots, ticked}
-use Rattle.node.proofs.Choices.{either-way, refuted}
+use Rattle.node.specs.Slots.{empty, payloadOf, isReceiver, isOf, first, onFirst, some}
+use Rattle.node.specs.Tick.{late, due, tickSlot, dueSlots, ticked}
+use Rattle.node.proofs.Choices.{either-way, contrary, refuted}
 use Rattle.node.proofs.Cases.{by-case}
 use Rattle.node.proofs.hear.Cases.{HearFacts, takes-says, takes-back, hear-cases}
 use Rattle.node.proofs.hear.Cases as node-hear
@@ -35,7 +37,7 @@ use Rattle.node.proofs.request.Cases as node-request
 use Rattle.node.proofs.next_frame.Cases.{next-cases}
 use Rattle.node.proofs.tick.Ascending.{Before, Ascends, due-ascend, only-due, due-of-stream}
 use Rattle.node.proofs.kept.EachSlot.{kept-empty}
-use Rattle.node.proofs.tick.Tests.{Due, due-tells}
+use Rattle.node.proofs.tick.Tests.{Due, late-tells, due-tells}
 use Rattle.node.proofs.next_frame.Lowest.{lowest-is-one}
 use Rattle.node.proofs.slots.Streams.{Kind, KeepsKind, heard-keeps, requested-keeps, given-out-keeps, slot-of-changed, slot-of-ticked}
 use Rattle.node.proofs.slots.Table.{all-weaken, all-first}
@@ -102,8 +104,17 @@ takes id dlc p x = node-hear.takes id dlc p x
 abbrev pub hearing : BusId → List ℕ → Node → Outcome
 hearing id p n = outcome unbounded (hear id (length p) p lent) n
 
-facts : (id : BusId) (p : List ℕ) (x : Slot) → takes id (length p) p x ≡ true → HearFacts id (length p) p lent x
-facts id p x t = takes-says id (length p) p lent x (omega arith) t
+pub taken-facts : (id : BusId) (p : List ℕ) (x : Slot) → takes id (length p) p x ≡ true → HearFacts id (length p) p lent x
+taken-facts id p x t = takes-says id (length p) p lent x (omega arith) t
+
+-- a receiver takes a good frame that its class carries, unless the frame clashes
+pub taken-unless-clash : (id : BusId) (p : List ℕ) (x : Slot) → badFrame id (length p) (length p) ≡ false → isReceiver x ≡ true
+    → carries (x .settings .class) (codeOf id) ≡ true → takes id (length p) p x ≡ not (clashes (codeOf id) p x)
+taken-unless-clash id p x good own fits = go (clashes (codeOf id) p x) refl
+  where
+    go : (c : Bool) → clashes (codeOf id) p x ≡ c → takes id (length p) p x ≡ not c
+    go true e = refuted (takes id (length p) p x) (λ t. contrary e (taken-facts id p x t .agrees))
+    go false e = takes-back id (length p) p lent x (record { room = omega arith; good = good; own = own; fits = fits; agrees = e })
 
 -- what hearing leaves in the node, and what it writes
 pub hears : (id : BusId) (p : List ℕ) (n : Node) → (let s = streamOf id in
@@ -116,12 +127,12 @@ hears id p n =
     by-case {n = n} {result = node-hear.heard id (length p) p lent n}
     (λ (o : Outcome).
     (o .node ≡ cond t (onSlot (streamOf id) (heardBy (n .counter) (codeOf id) p) n) n) × (o .bytes ≡ cond t (deliveredAtOnce id p) []))
-    (λ r why. let no : t ≡ false = refuted t (λ h. law .not-both r why (facts id p x h)) in rw no (refl, refl))
+    (λ r why. let no : t ≡ false = refuted t (λ h. law .not-both r why (taken-facts id p x h)) in rw no (refl, refl))
     (λ h. rw (takes-back id (length p) p lent x h) (refl, refl)) (law .case)
 
 pub hear-own : (id : BusId) (p : List ℕ) (n : Node) → (let x = slotOf (streamOf id) n in
     slotOf (streamOf id) (hearing id p n .node) ≡ cond (takes id (length p) p x) (heardBy (n .counter) (codeOf id) p x) x)
-hear-own id p n = ap (slotOf s) (hears id p n .0) ∙ go (takes id (length p) p x) (facts id p x)
+hear-own id p n = ap (slotOf s) (hears id p n .0) ∙ go (takes id (length p) p x) (taken-facts id p x)
   where
     s : Stream
     s = streamOf id
@@ -159,6 +170,16 @@ ticks n = ap (λ (o : Outcome). o .node) (tick-cases lent unbounded n .accepted-
 
 pub tick-slot : (s : Stream) (n : Node) → slotOf s (ticking n .node) ≡ tickSlot unbounded (n .counter + 1) (slotOf s n)
 tick-slot s n = ap (slotOf s) (ticks n) ∙ slot-of-ticked unbounded s n
+
+-- a slot that does not receive is neither late nor due
+pub not-late-nor-due : (age : ℕ) (x : Slot) → isReceiver x ≡ false → (late age x ≡ false) × (due age x ≡ false)
+not-late-nor-due age x deaf = (
+  refuted (late age x) (λ t. let k = late-tells age x .says t in contrary (receiver (k .used) (k .receiver)) deaf),
+  refuted (due age x) (λ t. let k = due-tells age x .says t in contrary (receiver (k .used) (k .receiver)) deaf),
+)
+  where
+    receiver : x .used ≡ true → receives (x .settings) ≡ true → isReceiver x ≡ true
+    receiver u r = rw (u, r)
 
 -- ── a request ──
 abbrev pub asking : Stream → List ℕ → Node → Outcome
@@ -202,6 +223,13 @@ ask-other s z p n other =
 
 pub ask-reply : (s : Stream) (p : List ℕ) (n : Node) → isDone (asking s p n .reply) ≡ accepts p (slotOf s n)
 ask-reply s p n = asks s p n .1
+
+-- what led to a request that was taken
+pub asked-facts : (s : Stream) (p : List ℕ) (n : Node) → T (isDone (asking s p n .reply)) → RequestFacts p (slotOf s n)
+asked-facts s p n =
+    let law = request-cases p s n in
+    by-case (λ (o : Outcome). T (isDone (o .reply)) → RequestFacts p (slotOf s n)) (λ r why t. absurd (not-so (law .not-done r why) t)) (λ h t. h)
+    (law .case)
 
 -- ── counters ──
 abbrev counterOf : Node → ℕ

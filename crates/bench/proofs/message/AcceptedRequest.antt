@@ -2,26 +2,22 @@
 -- from there.
 use Prim.Native.Nat.{ℕ}
 use mathlib.Core.Path.{_≡_, refl, subst, _∙_}
-use mathlib.Core.Bool.{not, _&&_}
+use mathlib.Core.Bool.{_&&_}
 use mathlib.Core.List.{List, [], _∷_, _++_}
-use lib.ListN.{length}
-use lib.Dec.{T, ltb, eqb}
+use lib.Dec.{T, eqb}
 use Rattle.wire.specs.declared.ids.Stream.{Stream}
 use Rattle.wire.specs.declared.settings.Settings.{Settings}
 use Rattle.wire.specs.Settings.{legal}
-use Rattle.wire.specs.Frames.{maxPayload}
 use Rattle.wire.specs.Settings as wire
 use Rattle.node.specs.Slots.{isSender}
-use Rattle.node.specs.Request.{busy}
 use Rattle.node.specs.Reachable.{Kept}
 use Rattle.node.proofs.slots.Streams.{Kind, kindOf}
-use Rattle.one_stream.proofs.Truth.{and-l, and-r}
-use Rattle.bench.specs.Bench.{Bench, moduleAt, isLive, slotAt, now}
-use Rattle.bench.specs.SetUp.{Plan, isDone, proper, start}
-use Rattle.bench.specs.Events.{Event, asks, isAccepted, asked, step, run}
+use Rattle.one_stream.proofs.Truth.{and-r, so}
+use Rattle.bench.specs.Bench.{Bench, moduleAt, slotAt, now}
+use Rattle.bench.specs.SetUp.{Plan, proper, start}
+use Rattle.bench.specs.Events.{Event, asks, isAccepted, step, run}
 use Rattle.bench.specs.Rules.{may, keepsSoFar}
-use Rattle.bench.proofs.laws.SlotAfterCall.{ask-reply}
-use Rattle.bench.proofs.laws.ModuleAfterEvent.{moved-step}
+use Rattle.bench.proofs.laws.ModuleAfterEvent.{accepted-facts, moved-step}
 use Rattle.bench.proofs.message.ClassOnBench.{toDelays, OnBench}
 use Rattle.bench.proofs.message.SeenAfterOwnEvent.{Valid}
 use Rattle.bench.proofs.message.MessageKept.{Track}
@@ -61,12 +57,7 @@ module _ {n : ℕ} (class : OnBench n) (plan : Plan) (before rest : List Event) 
     kind = kind-run s before b₀ (start-kept plan ok s) j
 
     sender₀ : T (isSender (slotAt s j b₀))
-    sender₀ =
-        let x = slotAt s j b₁ in
-        subst (λ (k : Kind). T (k .used && wire.sends (k .settings))) kind
-        (and-l (isSender x) (not (busy x))
-        (and-r (not (ltb maxPayload (length p))) (isSender x && not (busy x))
-        (subst T (ask-reply s p (moduleAt j b₁ .node)) (and-r (isLive j b₁) (isDone (asked j s p b₁ .reply)) accepted))))
+    sender₀ = subst (λ (k : Kind). T (k .used && wire.sends (k .settings))) kind (so (accepted-facts b₁ j s p accepted .own))
 
     of₀ : T (eqb (slotAt s j b₀ .settings .class) n)
     of₀ = subst (λ (k : Kind). T (eqb (k .settings .class) n)) kind of

@@ -29,7 +29,7 @@ use Rattle.bench.specs.Bench.{bookOf, booksOf, frameOf, ownerOf, setting
 use Rattle.bench.specs.Events.{Event, sends, ticks, dies, step, ticked, named, isFull, To, sentOnce, onFrame, onNewest, becamePending}
 use Rattle.bench.specs.Lists.{nth, at}
 use Rattle.bench.specs.Rules.{may, rule1, rule3, inTurn, inReach, within, wasFull}
-use Rattle.bench.proofs.laws.SlotAfterCall.{tick-slot}
+use Rattle.bench.proofs.laws.SlotAfterCall.{tick-slot, not-late-nor-due}
 use Rattle.bench.proofs.laws.ModuleAfterEvent.{nth-at, hearsFrame, tickedLive, module-step, dead-node, deaf, pending-receives, moved-step, Elsewhere}
 use Rattle.bench.proofs.laws.ModuleAfterEvent.{untouched-step, length-at, size-step, countOf, asFunction, Later, later-step}
 use Rattle.bench.proofs.laws.BooksAfterEvent.{entering, books-ticked, books-dead}
@@ -363,25 +363,20 @@ module _ {n : ℕ} {D : OS.Delays} (K : ClassOnBench n D) (s : Stream) (me : ℕ
   abbrev y₀ : Slot
   y₀ = slotAt s me b
 
-  no-late : (age : ℕ) → late age y₀ ≡ false
-  unfolding late
-  no-late age = rw (not-receiver y₀ (v .sender .0)) refl
-
-  no-due : (age : ℕ) → due age y₀ ≡ false
-  unfolding due
-  no-due age = rw (not-receiver y₀ (v .sender .0)) refl
+  neither : (age : ℕ) → (late age y₀ ≡ false) × (due age y₀ ≡ false)
+  neither age = not-late-nor-due age y₀ (not-receiver y₀ (v .sender .0))
 
   lapsed-sender : (age : ℕ) (o : Bool) → holdOver age y₀ ≡ o → (let y = lapsed age y₀ in
       (y .message .held ≡ (y₀ .message .held && not o)) × (y .pending .payload ≡ y₀ .pending .payload)
       × (payloadOf (y .message) ≡ payloadOf (y₀ .message))
       × (T (y .message .held) → y .message .stamp ≡ y₀ .message .stamp))
   unfolding lapsed
-  lapsed-sender age true e = rw (no-late age, no-due age, e) (sym (none (y₀ .message .held)), refl, refl, λ t. absurd t)
+  lapsed-sender age true e = rw (neither age .0, neither age .1, e) (sym (none (y₀ .message .held)), refl, refl, λ t. absurd t)
     where
       none : (h : Bool) → (h && false) ≡ false
       none true = refl
       none false = refl
-  lapsed-sender age false e = rw (no-late age, no-due age, e) (sym (all-of (y₀ .message .held)), refl, refl, λ t. refl)
+  lapsed-sender age false e = rw (neither age .0, neither age .1, e) (sym (all-of (y₀ .message .held)), refl, refl, λ t. refl)
     where
       all-of : (h : Bool) → (h && true) ≡ h
       all-of true = refl

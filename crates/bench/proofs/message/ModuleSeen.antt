@@ -2,18 +2,18 @@
 use Prim.Native.Nat.{ℕ, _+_, _-_, _≤_}
 use native.Mathlib.Omega.{arith}
 use mathlib.Core.Path.{_≡_, refl, ap, sym, subst, _∙_}
+use mathlib.Core.Logic.{⊎-elim}
 use mathlib.Core.Bool.{Bool, true, false, not, _&&_, _||_, cond, true≢false}
 use mathlib.Core.List.{List, [], _∷_, map}
 use lib.ListN.{length}
-use lib.Dec.{T, ltb, eqb, eqb-refl, eqb→eq, ltb→lt}
-use native.Mathlib.Decide.{decLe}
+use lib.Dec.{T, eqb, eqb→eq}
 use Rattle.wire.specs.declared.ids.Stream.{Stream}
 use Rattle.wire.specs.declared.settings.Settings.{Settings}
 use Rattle.node.specs.declared.slots.Slot.{Slot}
 use Rattle.node.specs.declared.Node.{Node}
 use Rattle.wire.specs.Classes.{carries}
-use Rattle.wire.specs.Frames.{maxPayload, unwantedPayload, badFrame}
-use Rattle.wire.specs.Identifiers.{idOf, streamOf, codeOf, maxStream, maxBusId}
+use Rattle.wire.specs.Frames.{maxPayload, badFrame}
+use Rattle.wire.specs.Identifiers.{idOf, streamOf, codeOf, maxStream}
 use Rattle.wire.specs.Settings.{receives, isPlain}
 use Rattle.node.specs.Clock.{unbounded}
 use Rattle.node.specs.Hear.{clashes, heardBy}
@@ -21,12 +21,14 @@ use Rattle.node.specs.NextFrame.{payloadFor}
 use Rattle.node.specs.Nodes.{slotOf}
 use Rattle.node.specs.Reachable.{Kept}
 use Rattle.node.specs.Slots.{isReceiver}
-use Rattle.node.specs.Tick.{late, due, holdOver, lapsed, tickSlot}
+use Rattle.node.specs.Tick.{holdOver, lapsed, tickSlot}
+use Rattle.wire.proofs.Frames.{own-frame}
 use Rattle.node.proofs.slots.Streams.{Kind, kindOf}
 use Rattle.one_stream.proofs.Truth.{is-true, is-false, so, not-so}
 use Rattle.bench.specs.Bench.{Module, Frame, Delivery}
 use Rattle.bench.specs.Events.{onto, deliveries}
-use Rattle.bench.proofs.laws.SlotAfterCall.{same-stream, slot-kept, hearing, hear-own, ticking, tick-slot, onStream, deliveryOf, tick-delivers}
+use Rattle.bench.proofs.laws.SlotAfterCall.{same-stream, slot-kept, takes, taken-unless-clash, hearing, hear-own, ticking}
+use Rattle.bench.proofs.laws.SlotAfterCall.{tick-slot, not-late-nor-due, onStream, deliveryOf, tick-delivers}
 use Rattle.bench.proofs.laws.ModuleAfterEvent.{asFunction}
 use Rattle.bench.proofs.message.SendingsSeen.{toSent}
 use Rattle.bench.proofs.message.ClassOnBench.{OfClass, Receiving, newly, Becomes, ClassOnBench}
@@ -124,30 +126,8 @@ code-id s c h = omega arith
 -- data of at most eight bytes, or an empty frame
 pub good-frame : (s : Stream) (c : ℕ) (b : List ℕ) → s .0 ≤ maxStream → c ≤ 2 → length b ≤ maxPayload → (1 ≤ c → length b ≡ 0)
     → badFrame (idOf s c) (length b) (length b) ≡ false
-unfolding badFrame
-good-frame s c b small code short bare = rw (low, few, equal, plain) refl
-  where
-    low : ltb maxBusId (idOf s c .0) ≡ false
-    low = is-false (ltb maxBusId (idOf s c .0)) (λ t. let h = ltb→lt maxBusId (idOf s c .0) t in omega arith)
-
-    few : ltb maxPayload (length b) ≡ false
-    few = is-false (ltb maxPayload (length b)) (λ t. let h = ltb→lt maxPayload (length b) t in omega arith)
-
-    equal : eqb (length b) (length b) ≡ true
-    equal = is-true (eqb (length b) (length b)) (eqb-refl (length b))
-
-    plain : unwantedPayload (idOf s c) (length b) ≡ false
-    plain = go (decLe 1 c)
-      where
-        go : Dec (1 ≤ c) → unwantedPayload (idOf s c) (length b) ≡ false
-        go (yes h) = rw (bare h) (none (eqb (codeOf (idOf s c)) 1 || eqb (codeOf (idOf s c)) 2))
-          where
-            none : (t : Bool) → (t && false) ≡ false
-            none true = refl
-            none false = refl
-        go (no h) =
-            let is-data : codeOf (idOf s c) ≡ 0 = omega arith in
-            rw is-data refl
+good-frame s c b small code short bare =
+    own-frame (idOf s c) (length b) (omega arith) short (⊎-elim (λ e. bare (omega arith)) (λ e. bare (omega arith)))
 
 -- ── the node of a module ──
 module _ {n : ℕ} {D : OS.Delays} (K : ClassOnBench n D) (s : Stream) (node : Node) (k : Kept node)
@@ -162,22 +142,17 @@ module _ {n : ℕ} {D : OS.Delays} (K : ClassOnBench n D) (s : Stream) (node : N
   heard-slot : (c : ℕ) → c ≤ 2 → (b : List ℕ) → badFrame (idOf s c) (length b) (length b) ≡ false → T (isReceiver x)
       → slotOf s (hearing (idOf s c) b node .node) ≡ cond (not (clashes c b x)) (heardBy (node .counter) c b x) x
   heard-slot c code b good r =
-      subst (λ z. slotOf z (hearing (idOf s c) b node .node)
-      ≡ cond (takesCode z (codeOf (idOf s c))) (heardBy (node .counter) (codeOf (idOf s c)) b (slotOf z node)) (slotOf z node)) (stream-id s c (omega arith))
-      (hear-own (idOf s c) b node)
-      ∙ (ap (λ d. cond (takesCode s d) (heardBy (node .counter) d b x) x) (code-id s c (omega arith))
-      ∙ ap (λ t. cond t (heardBy (node .counter) c b x) x) taken)
+      let id = idOf s c in
+      subst (λ z. slotOf z (hearing id b node .node)
+      ≡ cond (takes id (length b) b (slotOf z node)) (heardBy (node .counter) (codeOf id) b (slotOf z node)) (slotOf z node)) (stream-id s c (omega arith))
+      (hear-own id b node)
+      ∙ (ap (λ t. cond t (heardBy (node .counter) (codeOf id) b x) x) (taken-unless-clash id b x good (is-true (isReceiver x) r) carried)
+      ∙ ap (λ d. cond (not (clashes d b x)) (heardBy (node .counter) d b x) x) (code-id s c (omega arith)))
     where
-      takesCode : Stream → ℕ → Bool
-      takesCode z d =
-          not (badFrame (idOf s c) (length b) (length b))
-          && (isReceiver (slotOf z node) && (carries (slotOf z node .settings .class) d && not (clashes d b (slotOf z node))))
-
-      taken : takesCode s c ≡ not (clashes c b x)
-      taken =
-          let carried : carries (x .settings .class) c ≡ true =
-          subst (λ m. carries m c ≡ true) (sym (eqb→eq (x .settings .class) n (of r .class))) (K .carries c code) in
-          rw (good, is-true (isReceiver x) r, carried) refl
+      carried : carries (x .settings .class) (codeOf (idOf s c)) ≡ true
+      carried =
+          subst (λ d. carries (x .settings .class) d ≡ true) (sym (code-id s c (omega arith)))
+          (subst (λ m. carries m c ≡ true) (sym (eqb→eq (x .settings .class) n (of r .class))) (K .carries c code))
 
   heard-becomes : (c : ℕ) → c ≤ 2 → (b : List ℕ) → badFrame (idOf s c) (length b) (length b) ≡ false → T (isReceiver x)
       → {h : K .C .Slot} {caused : Bool} → Becomes (K .C) (K .held) x h caused (cond (not (clashes c b x)) (heardBy (node .counter) c b x) x)
@@ -210,10 +185,6 @@ module _ {n : ℕ} {D : OS.Delays} (K : ClassOnBench n D) (s : Stream) (node : N
       subst (Becomes (K .C) (K .held) x (K .C .onTick t (K .held x)) (K .C .late t (K .held x))) (sym (tick-slot s node))
       (K .onTick (node .counter) x (receiving r))
 
-  not-late-due : isReceiver x ≡ false → (age : ℕ) → (late age x ≡ false) × (due age x ≡ false)
-  unfolding late due
-  not-late-due e age = (rw e refl, rw e refl)
-
   -- where the stream is not received a hold may end, and no more
   pub ticked-other : isReceiver x ≡ false → Looks K (isReceiver x) (K .held x) (x .pending .abort) (slotOf s (ticking node .node))
   unfolding lapsed
@@ -222,10 +193,10 @@ module _ {n : ℕ} {D : OS.Delays} (K : ClassOnBench n D) (s : Stream) (node : N
       go : (o : Bool) → holdOver (t - x .message .stamp) x ≡ o
           → Looks K (isReceiver x) (K .held x) (x .pending .abort) (tickSlot unbounded t x)
       go true eh =
-          let z = not-late-due e (t - x .message .stamp) in
+          let z = not-late-nor-due (t - x .message .stamp) x e in
           record { receiver = rw (z .0, z .1, eh) refl; held = λ y. absurd (not-so e y); pending = rw (z .0, z .1, eh) refl }
       go false eh =
-          let z = not-late-due e (t - x .message .stamp) in
+          let z = not-late-nor-due (t - x .message .stamp) x e in
           record { receiver = rw (z .0, z .1, eh) refl; held = λ y. absurd (not-so e y); pending = rw (z .0, z .1, eh) refl }
 
   pub ticked-log : T (isReceiver x) → (log : List Delivery)
@@ -245,4 +216,4 @@ module _ {n : ℕ} {D : OS.Delays} (K : ClassOnBench n D) (s : Stream) (node : N
   pub ticked-log-other : isReceiver x ≡ false → (log : List Delivery) → notes s (onto (deliveries unbounded node) log) ≡ notes s log
   ticked-log-other e log =
       ap (map toNote) (tick-delivers s node k log)
-      ∙ ap (λ d. map toNote (cond d (deliveryOf t x ∷ onStream s log) (onStream s log))) (not-late-due e (t - x .message .stamp) .1)
+      ∙ ap (λ d. map toNote (cond d (deliveryOf t x ∷ onStream s log) (onStream s log))) (not-late-nor-due (t - x .message .stamp) x e .1)

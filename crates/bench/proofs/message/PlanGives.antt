@@ -9,20 +9,19 @@ use lib.ListN.{length}
 use lib.Dec.{T, leb, eqb, eqb-refl, eqb→eq, T-not}
 use native.Mathlib.Decide.{decLe}
 use Rattle.wire.specs.declared.ids.Stream.{Stream}
-use Rattle.wire.specs.declared.reply.Reply.{Reply}
 use Rattle.wire.specs.declared.settings.Settings.{Settings}
 use Rattle.node.specs.declared.slots.Slot.{Slot}
 use Rattle.node.specs.declared.Node.{Node}
-use Rattle.wire.specs.declared.reply.Reply.the-variants.{BadSettings, Taken, TableFull}
 use Rattle.wire.specs.Settings.{receives, legal}
 use Rattle.wire.proofs.LegalSettings.{legal-tells}
 use Rattle.node.specs.Calls.{after, afterFrom}
 use Rattle.node.specs.Clock.{unbounded}
-use Rattle.node.specs.Nodes.{slotOf, hasSlot, fresh, refused, Outcome, done, withSlots}
+use Rattle.node.specs.Nodes.{slotOf, fresh, Outcome}
 use Rattle.node.specs.Reachable.{Kept}
-use Rattle.node.specs.SetUp.{slotFor}
-use Rattle.node.specs.Slots.{isReceiver, isSender, isFree, isOf, empty, first, onFirst, some}
+use Rattle.node.specs.Slots.{slotFor, isReceiver, isSender, isFree, isOf, empty, first, onFirst, some}
 use Rattle.node.proofs.Choices.{neither}
+use Rattle.node.proofs.Cases.{by-case}
+use Rattle.node.proofs.set_up.Cases.{SetUpFacts, set-up-cases}
 use Rattle.node.proofs.kept.EveryCall.{kept}
 use Rattle.one_stream.proofs.Truth.{cond-elim, and-l, and-r, both, or-l, or-r, decide, is-true, is-false, so}
 use Rattle.bench.specs.Bench.{Bench, Ledger, noBook, noModule, moduleAt, slotAt, booksIn, booksOf, frameOf, sameStream}
@@ -78,37 +77,17 @@ pub data SetSlot (s : Stream) (z : Stream) (set : Settings) (before : Slot) : Sl
   isSet : z ≡ s → SetSlot s z set before (slotFor s set)
 
 set-slot : (s z : Stream) (set : Settings) (n : Node) → SetSlot s z set (slotOf s n) (slotOf s (SetUp.setUp z set n .node))
-unfolding SetUp.setUp
 set-slot s z set n =
-    unless (not (legal z set)) BadSettings _
-    (go (hasSlot z n) refl)
+    by-case (λ (o : Outcome). SetSlot s z set (slotOf s n) (slotOf s (o .node))) (λ r why. stays) (λ h. taken h (decide-stream s z))
+    (set-up-cases z set n .case)
   where
-    unless : (t : Bool) (r : Reply) (o : Outcome) → SetSlot s z set (slotOf s n) (slotOf s (o .node))
-        → SetSlot s z set (slotOf s n) (slotOf s (cond t (refused n r) o .node))
-    unless true r o h = stays
-    unless false r o h = h
-
-    new : Outcome
-    new = done (withSlots (onFirst isFree (λ x. slotFor z set) (n .slots)) n) []
-
-    taken : hasSlot z n ≡ false → T (some isFree (n .slots)) → (s ≡ z) ⊎ (Same s z → ⊥)
-        → SetSlot s z set (slotOf s n) (slotOf s (new .node))
-    taken none free (inr other) = subst (SetSlot s z set (slotOf s n)) (sym (taken-other s z set other (n .slots))) stays
-    taken none free (inl e) =
+    taken : SetUpFacts z set n → (s ≡ z) ⊎ (Same s z → ⊥)
+        → SetSlot s z set (slotOf s n) (first (isOf s) (onFirst isFree (λ x. slotFor z set) (n .slots)))
+    taken h (inr other) = subst (SetSlot s z set (slotOf s n)) (sym (taken-other s z set other (n .slots))) stays
+    taken h (inl e) =
         subst (λ y. SetSlot s z set (slotOf s n) (first (isOf s) (onFirst isFree (λ x. slotFor y set) (n .slots)))) e
         (subst (SetSlot s z set (slotOf s n))
-        (sym (taken-own s set (n .slots) (subst (λ y. some (isOf y) (n .slots) ≡ false) (sym e) none) free)) (isSet (sym e)))
-
-    go : (t : Bool) → hasSlot z n ≡ t
-        → SetSlot s z set (slotOf s n) (slotOf s
-        (cond t (refused n Taken) (cond (not (some isFree (n .slots))) (refused n TableFull) new) .node))
-    go true e = stays
-    go false e = free (some isFree (n .slots)) (λ t. t)
-      where
-        free : (f : Bool) → (T f → T (some isFree (n .slots)))
-            → SetSlot s z set (slotOf s n) (slotOf s (cond (not f) (refused n TableFull) new .node))
-        free true g = taken e (g tt) (decide-stream s z)
-        free false g = stays
+        (sym (taken-own s set (n .slots) (subst (λ y. some (isOf y) (n .slots) ≡ false) (sym e) (h .new)) (so (h .room)))) (isSet (sym e)))
 
 -- ── the slots of a module after set up ──
 abbrev pub In : Entry → Part → Type 0
@@ -149,6 +128,13 @@ each-entry test (y ∷ ys) t e (inr i) = each-entry test ys (and-r (test y) (eve
 
 parts-agree : (p q : Part) → T (partsAgree p q) → (e f : Entry) → In e p → In f q → T (agree e f)
 parts-agree p q t e f i j = each-entry (agree e) q (each-entry (λ x. every (agree x) q) p t e i) f j
+
+pub proper-agrees : (plan : Plan) → T (proper plan) → T (allAgree plan)
+unfolding proper
+proper-agrees plan ok =
+    let sizes = leb 2 (length plan) && leb (length plan) 8 in
+    let sent = every (λ (e : Entry). isSent plan (e .stream)) (allEntries plan) in
+    and-r (sizes && every accepted plan) (allAgree plan) (and-l (sizes && every accepted plan && allAgree plan) sent ok)
 
 -- entries of an earlier and a later module agree
 pub plan-agrees : (plan : Plan) → T (allAgree plan) → (i j : ℕ) → i < j → (e f : Entry) → In e (nth [] i plan) → In f (nth [] j plan)
@@ -251,13 +237,6 @@ module _ (plan : Plan) (ok : T (proper plan)) (s : Stream) where
   abbrev b₀ : Bench
   b₀ = start plan
 
-  agrees : T (allAgree plan)
-  unfolding proper
-  agrees =
-      let sizes = leb 2 (length plan) && leb (length plan) 8 in
-      let sent = every (λ (e : Entry). isSent plan (e .stream)) (allEntries plan) in
-      and-r (sizes && every accepted plan) (allAgree plan) (and-l (sizes && every accepted plan && allAgree plan) sent ok)
-
   start-node : (i : ℕ) → moduleAt i b₀ .node ≡ after unbounded (setUps (nth [] i plan))
   unfolding start
   start-node i = node-at plan i
@@ -297,13 +276,13 @@ module _ (plan : Plan) (ok : T (proper plan)) (s : Stream) where
       go : Dec (i ≤ j) → Alike (e .entry-is .settings) (f .entry-is .settings)
       go (yes h) =
           alike-of s (e .entry-is) (f .entry-is) (e .stream-is) (f .stream-is)
-          (plan-agrees plan agrees i j (strict h) (e .entry-is) (f .entry-is) (e .there) (f .there))
+          (plan-agrees plan (proper-agrees plan ok) i j (strict h) (e .entry-is) (f .entry-is) (e .there) (f .there))
         where
           strict : i ≤ j → i < j
           strict h = omega (arith, differ)
       go (no h) =
           alike-sym (alike-of s (f .entry-is) (e .entry-is) (f .stream-is) (e .stream-is)
-          (plan-agrees plan agrees j i (omega arith) (f .entry-is) (e .entry-is) (f .there) (e .there)))
+          (plan-agrees plan (proper-agrees plan ok) j i (omega arith) (f .entry-is) (e .entry-is) (f .there) (e .there)))
 
   quiet-slot : {part : Part} {x : Slot} → FromPlan s part x → Quiet x
   quiet-slot noEntry = record { held = refl; noPayload = refl; noConfirmation = refl; noAbort = refl }

@@ -2,24 +2,26 @@
 use Prim.Native.Nat.{ℕ, zero, suc, _≤_}
 use native.Mathlib.Omega.{arith}
 use mathlib.Core.Path.{_≡_, refl, ap, sym, subst, _∙_, fun-ext}
-use mathlib.Core.Bool.{Bool, true, false, not, _&&_, _||_, cond}
+use mathlib.Core.Bool.{Bool, true, false, not, _&&_, cond}
 use mathlib.Core.List.{List, [], _∷_, map}
 use lib.ListN.{length}
-use lib.Dec.{T, ltb, eqb, eqb-refl, eqb→eq, nltb→le}
+use lib.Dec.{T, eqb, eqb-refl, eqb→eq}
 use Rattle.wire.specs.declared.ids.Stream.{Stream}
 use Rattle.node.specs.declared.slots.Slot.{Slot}
 use Rattle.node.specs.declared.Node.{Node}
 use Rattle.wire.specs.Frames.{maxPayload}
 use Rattle.node.specs.Nodes.{slotOf}
-use Rattle.node.specs.Request.{requested, busy}
+use Rattle.node.specs.Request.{requested, hasPending}
 use Rattle.node.specs.Slots.{isReceiver, isSender}
-use Rattle.one_stream.proofs.Truth.{cond-elim, cond-true, and-l, and-r, both, is-true, is-false, so}
+use Rattle.node.proofs.Choices.{neither}
+use Rattle.one_stream.proofs.Truth.{cond-elim, cond-true, and-r, both, is-true, is-false, so}
 use Rattle.bench.specs.Bench.{Module, Bench, Book, Frame, moduleAt, isLive, slotAt}
 use Rattle.bench.specs.Events.{Event, asks, dies, step, dead, withNode, isAccepted, newBook, asked}
 use Rattle.bench.specs.Lists.{nth}
 use Rattle.bench.specs.SetUp.{isDone}
 use Rattle.bench.proofs.laws.SlotAfterCall.{slot-kept, asking, accepts, ask-own, ask-reply, ask-counter}
-use Rattle.bench.proofs.laws.ModuleAfterEvent.{module-step, dead-live, dead-node, Elsewhere, untouched-step, countOf, asFunction, count-is}
+use Rattle.bench.proofs.laws.ModuleAfterEvent.{accepted-facts, module-step, dead-live, dead-node, Elsewhere, untouched-step, countOf, asFunction}
+use Rattle.bench.proofs.laws.ModuleAfterEvent.{count-is}
 use Rattle.bench.proofs.message.SendingsSeen.{toSent}
 use Rattle.bench.proofs.message.ClassOnBench.{ClassOnBench}
 use Rattle.bench.proofs.message.ModuleSeen.{notes, viewOf, view, Looks, looks, view-looks}
@@ -93,28 +95,19 @@ module _ {n : ℕ} {D : OS.Delays} (K : ClassOnBench n D) (s : Stream) (me : ℕ
     asks-slot = subst T (ask-reply s p (moduleAt j b .node)) (and-r (isLive j b) (isDone (asked j s p b .reply)) t)
 
     asks-sender : T (isSender (slotAt s j b))
-    asks-sender =
-        let x = slotAt s j b in
-        and-l (isSender x) (not (busy x)) (and-r (not (ltb maxPayload (length p))) (isSender x && not (busy x)) asks-slot)
+    asks-sender = so (accepted-facts b j s p t .own)
 
     pub asks-me : j ≡ me
     asks-me = v .only j asks-sender
 
     pub asks-short : length p ≤ maxPayload
-    asks-short =
-        let x = slotAt s j b in
-        nltb→le maxPayload (length p) (and-l (not (ltb maxPayload (length p))) (isSender x && not (busy x)) asks-slot)
+    asks-short = accepted-facts b j s p t .short
 
     -- the sender was free
     pub asks-free : T (not (slotAt s j b .message .held))
     asks-free =
         let x = slotAt s j b in
-        nor-l (x .message .held) (x .pending .payload || x .pending .confirmation || x .pending .abort)
-        (and-r (isSender x) (not (busy x)) (and-r (not (ltb maxPayload (length p))) (isSender x && not (busy x)) asks-slot))
-      where
-        nor-l : (a b : Bool) → T (not (a || b)) → T (not a)
-        nor-l true b t = t
-        nor-l false b t = tt
+        so (ap not (neither (x .message .held) (hasPending (x .pending)) (accepted-facts b j s p t .free) .0))
 
     pub asked-slot : slotAt s j (step b (asks j s p)) ≡ requested (countOf b j) p (slotAt s j b)
     asked-slot =

@@ -280,31 +280,26 @@ module _ {n : ℕ} {D : OS.Delays} (K : ClassOnBench n D) (s : Stream) (me : ℕ
       f = frameOf w k
 
       -- what the class says of its slot, and makes of its view
-      became : (T (eqb (codeOf (f .id)) 3) → ⊥) → {h : K .C .Slot} {caused : Bool}
-          → Becomes (K .C) (K .held) x h caused (slotOf s (hearsFrame f m .node))
-          → op (view K s carried m row)
-          ≡ seen K (m .live) (K .held x) (x .pending .abort) (map (toFrame carried) row) (notes s (m .log)) (asFunction (now (sentTo w))) carried (isReceiver x)
-          h caused (notes s (m .log))
-          → op (view K s carried m row) ≡ entered b (sentTo w) i row (hearsFrame f m)
-      became not-plain k e =
-          e ∙ sym (view-becomes K s carried (now (sentTo w)) m (hearsFrame f m) row refl (hear-kind s (f .id) (f .payload) (m .node)) k
-          (heard-log s f m not-plain))
-
-      heard-receiver : (T (eqb (codeOf (f .id)) 3) → ⊥) → (T (isReceiver x) → T (eqb i (ownerOf w k)) → ⊥)
-          → (T (isLive i b) → T (isReceiver x) → T (named to i)
-          → op (view K s carried m row) ≡ entered b (sentTo w) i row (hearsFrame f m))
+      heard-receiver : (T (eqb (codeOf (f .id)) 3) → ⊥) → (T (isReceiver x) → T (eqb i (ownerOf w k)) → ⊥) → {h : K .C .Slot} {caused : Bool}
+          → (T (isReceiver x) → Becomes (K .C) (K .held) x h caused (slotOf s (hearsFrame f m .node)))
+          → (T (isLive i b) → T (isReceiver x) → T (named to i) → op (view K s carried m row)
+          ≡ seen K (m .live) (K .held x) (x .pending .abort) (map (toFrame carried) row) (notes s (m .log)) (asFunction (now (sentTo w))) carried
+          (isReceiver x) h caused (notes s (m .log)))
           → cond ((isLive i b && isReceiver x) && named to i) (op (view K s carried m row)) (view K s carried m row)
           ≡ entered b (sentTo w) i row (cond (hearsIt w i) (hearsFrame f m) m)
-      heard-receiver not-plain not-own heard =
+      heard-receiver not-plain not-own becomes seen-so =
           cond-elim (λ z. z ≡ after (hearsIt w i)) ((isLive i b && isReceiver x) && named to i)
           (λ t.
           let here = and-l (isLive i b && isReceiver x) (named to i) t in
           let name = and-r (isLive i b && isReceiver x) (named to i) t in
           let live = and-l (isLive i b) (isReceiver x) here in
           let r = and-r (isLive i b) (isReceiver x) here in
-          heard live r name
+          seen-so live r name
+          ∙ (sym (view-becomes K s carried (now (sentTo w)) m (hearsFrame f m) row refl (hear-kind s (f .id) (f .payload) (m .node)) (becomes r)
+          (heard-log s f m not-plain))
           ∙ ap after (sym (is-true (hearsIt w i)
-          (both (isLive i b && named to i) (not (eqb i (ownerOf w k))) (both (isLive i b) (named to i) live name) (not-T (eqb i (ownerOf w k)) (not-own r))))))
+          (both (isLive i b && named to i) (not (eqb i (ownerOf w k))) (both (isLive i b) (named to i) live name)
+          (not-T (eqb i (ownerOf w k)) (not-own r)))))))
           (λ t. stays (hearsIt w i) (λ g. is-false (isReceiver x) (λ r.
           let named-live = and-l (isLive i b && named to i) (not (eqb i (ownerOf w k))) g in
           T-not ((isLive i b && isReceiver x) && named to i) t
@@ -341,13 +336,10 @@ module _ {n : ℕ} {D : OS.Delays} (K : ClassOnBench n D) (s : Stream) (me : ℕ
               let m = moduleAt i b in
               let x = slotAt s i b in
               let row = nth [] i (k .aborts) in
-              let t = asFunction (now (sentTo thePayload)) in
-              let op = OC.hearData (K .C) (countOf b i) p in
-              let not-plain = not-plain-frame s 0 (omega arith) id in
-              heard-receiver thePayload i row op not-plain (own-no-receiver sender i)
-              (λ live r name. became thePayload i row op not-plain (data-heard i r)
-              (data-view K (m .live) (K .held x) (x .pending .abort) (map (toFrame carried) row) (notes s (m .log)) t carried (isReceiver x) r
-              (countOf b i) p))
+              heard-receiver thePayload i row (OC.hearData (K .C) (countOf b i) p) (not-plain-frame s 0 (omega arith) id) (own-no-receiver sender i)
+              (data-heard i)
+              (λ live r name. data-view K (m .live) (K .held x) (x .pending .abort) (map (toFrame carried) row) (notes s (m .log))
+              (asFunction (now (sentTo thePayload))) carried (isReceiver x) r (countOf b i) p)
               ∙ entered-sent thePayload (k .aborts) size i
 
           pub data-strand : (hold : Bool)
@@ -372,14 +364,12 @@ module _ {n : ℕ} {D : OS.Delays} (K : ClassOnBench n D) (s : Stream) (me : ℕ
               let m = moduleAt i b in
               let x = slotAt s i b in
               let row = nth [] i (k .aborts) in
-              let t = asFunction (now (sentTo theConfirmation)) in
-              let op = OC.hearConf (K .C) (countOf b) in
-              let not-plain = not-plain-frame s 1 (omega arith) id in
-              heard-receiver theConfirmation i row op not-plain (own-no-receiver sender i)
-              (λ live r name. became theConfirmation i row op not-plain (conf-heard i r)
-              (ap (λ c. OC.hearConf (K .C) c (view K s carried m row)) (when-sent theConfirmation)
-              ∙ conf-view K (m .live) (K .held x) (x .pending .abort) (map (toFrame carried) row) (notes s (m .log)) t carried (isReceiver x) r
-              (λ refuses. caused-bytes b v k size i (named to i) (K .C .refuses) live r name refuses (bytes i))))
+              heard-receiver theConfirmation i row (OC.hearConf (K .C) (countOf b)) (not-plain-frame s 1 (omega arith) id) (own-no-receiver sender i)
+              (conf-heard i)
+              (λ live r name. ap (λ c. OC.hearConf (K .C) c (view K s carried m row)) (when-sent theConfirmation)
+              ∙ conf-view K (m .live) (K .held x) (x .pending .abort) (map (toFrame carried) row) (notes s (m .log))
+              (asFunction (now (sentTo theConfirmation))) carried (isReceiver x) r
+              (λ refuses. caused-bytes b v k size i (named to i) (K .C .refuses) live r name refuses (bytes i)))
               ∙ entered-sent theConfirmation (k .aborts) size i
 
           pub conf-strand : (hold : Bool)
@@ -460,11 +450,10 @@ module _ {n : ℕ} {D : OS.Delays} (K : ClassOnBench n D) (s : Stream) (me : ℕ
                 ∙ ap (λ g. entered b (sentTo w) i (at changed y row) (cond g (hearsFrame f m) m))
                 (sym (is-false (hearsIt w i) (λ g. T-not (eqb i q) (and-r (isLive i b && named to i) (not (eqb i q)) g) (so own)))))
             go false other =
-                heard-receiver w i row (OC.hearCode2 (K .C) (countOf b i) (OF.bytesAt y frames)) plain-not (λ r o. not-so other o)
-                (λ live r name. became w i row (OC.hearCode2 (K .C) (countOf b i) (OF.bytesAt y frames)) plain-not (code2-heard i r)
-                (ap (λ c. OC.hearCode2 (K .C) (countOf b i) c (view K s carried m row)) (bytes-sent y (nth [] q (k .aborts)) given)
+                heard-receiver w i row (OC.hearCode2 (K .C) (countOf b i) (OF.bytesAt y frames)) plain-not (λ r o. not-so other o) (code2-heard i)
+                (λ live r name. ap (λ c. OC.hearCode2 (K .C) (countOf b i) c (view K s carried m row)) (bytes-sent y (nth [] q (k .aborts)) given)
                 ∙ code2-view K (m .live) (K .held x) (x .pending .abort) (map (toFrame carried) row) (notes s (m .log)) (asFunction (now (sentTo w))) carried
-                (isReceiver x) r (countOf b i) carried))
+                (isReceiver x) r (countOf b i) carried)
 
         pub code2-strand : (hold : Bool)
             → OH.act (K .C) (strandOf b k hold) (OH.on (OC.sendCode2 q y (named to) (isFull to)))

@@ -2,7 +2,7 @@
 use Prim.Native.Nat.{ℕ, zero, suc, _+_, _≤_}
 use native.Mathlib.Omega.{arith}
 use mathlib.Core.Path.{_≡_, refl, ap, sym, subst, fun-ext}
-use mathlib.Core.Bool.{true, false, not, _&&_}
+use mathlib.Core.Bool.{Bool, true, false, not, _&&_}
 use mathlib.Core.List.{[], _∷_}
 use lib.Dec.{T, leb, leb→le}
 use Rattle.one_stream.proofs.Truth.{and-l, and-r}
@@ -17,21 +17,19 @@ toSent never = OS.never
 toSent (sent a b f) = OS.sent (asFunction a) (asFunction b) f
 
 -- ── what the books say of a frame ──
-full-is : (f : Frame) → OS.Full (toSent (f .sendings)) ≡ T (wasFull f)
+-- what does not hold of a frame that was never sent, and else is told by whether the last sending was full
+told-by-last : (Holds : OS.Sent → Type 0) (tells : Bool → Bool) → Holds OS.never ≡ ⊥
+    → ((x y : OS.Moment) (full : Bool) → Holds (OS.sent x y full) ≡ T (tells full))
+    → (d : Sendings) → Holds (toSent d) ≡ T (elim d [ never ↦ false | sent x y full ↦ tells full ])
 unfolding toSent
-full-is f = go (f .sendings)
-  where
-    go : (d : Sendings) → OS.Full (toSent d) ≡ T (elim d [ never ↦ false | sent a b c ↦ c ])
-    go never = refl
-    go (sent a b c) = refl
+told-by-last Holds tells none some never = none
+told-by-last Holds tells none some (sent x y full) = some (asFunction x) (asFunction y) full
+
+full-is : (f : Frame) → OS.Full (toSent (f .sendings)) ≡ T (wasFull f)
+full-is f = told-by-last OS.Full (λ full. full) refl (λ x y full. refl) (f .sendings)
 
 some-is : (f : Frame) → OS.Some (toSent (f .sendings)) ≡ T (wasSent f)
-unfolding toSent
-some-is f = go (f .sendings)
-  where
-    go : (d : Sendings) → OS.Some (toSent d) ≡ T (elim d [ never ↦ false | sent a b c ↦ true ])
-    go never = refl
-    go (sent a b c) = refl
+some-is f = told-by-last OS.Some (λ full. true) refl (λ x y full. refl) (f .sendings)
 
 module _ (f : Frame) where
   pub was-full : OS.Full (toSent (f .sendings)) → T (wasFull f)

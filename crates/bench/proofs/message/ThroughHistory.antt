@@ -2,7 +2,7 @@
 use Prim.Native.Nat.{ℕ, zero, suc, _+_, _-_}
 use mathlib.Core.Path.{_≡_, refl, ap, sym, subst, _∙_}
 use mathlib.Core.Logic.{_⊎_, inl, inr}
-use mathlib.Core.Bool.{Bool, true, false, _&&_}
+use mathlib.Core.Bool.{false}
 use mathlib.Core.List.{List, [], _∷_, _++_}
 use lib.Dec.{T, eqb-refl, eqb→eq}
 use Rattle.wire.specs.declared.ids.Stream.{Stream}
@@ -10,9 +10,10 @@ use Rattle.node.specs.declared.slots.Slot.{Slot}
 use Rattle.node.specs.declared.Node.{Node}
 use Rattle.wire.specs.Identifiers.{codeOf}
 use Rattle.node.specs.Nodes.{slotOf}
-use Rattle.node.specs.Slots.{isReceiver, isSender}
+use Rattle.node.specs.Slots.{isReceiver}
 use Rattle.node.specs.Tick.{late, due, holdOver, lapsed}
-use Rattle.node.proofs.Choices.{either-way}
+use Rattle.node.proofs.Choices.{either-way, contrary, refuted}
+use Rattle.node.proofs.tick.Tests.{late-tells, due-tells, hold-over-tells}
 use Rattle.one_stream.proofs.Chain.{fresh-inv}
 use Rattle.one_stream.proofs.Truth.{cond-elim, and-l, and-r, both, decide, not-so}
 use Rattle.bench.specs.Bench.{Module, Bench, Book, noBook, moduleAt, isLive, slotAt, booksOf, bookOf, now, frameOf, Which, Moment, sameStream}
@@ -135,21 +136,14 @@ none-pending x q (Laws.theAbort t) = not-so (q .noAbort) t
 
 -- where nothing is held nothing lapses
 module _ (age : ℕ) (x : Slot) (free : x .message .held ≡ false) where
-  and-false : (r : Bool) → (r && false) ≡ false
-  and-false true = refl
-  and-false false = refl
-
   not-late : late age x ≡ false
-  unfolding late
-  not-late = rw (free, and-false (isReceiver x)) refl
+  not-late = refuted (late age x) (λ t. contrary (late-tells age x .says t .held) free)
 
   not-due : due age x ≡ false
-  unfolding due
-  not-due = rw (free, and-false (isReceiver x)) refl
+  not-due = refuted (due age x) (λ t. contrary (due-tells age x .says t .held) free)
 
   not-over : holdOver age x ≡ false
-  unfolding holdOver
-  not-over = rw (free, and-false (isSender x)) refl
+  not-over = refuted (holdOver age x) (λ t. contrary (hold-over-tells age x .says t .held) free)
 
   pub quiet-lapsed : lapsed age x ≡ x
   unfolding lapsed

@@ -18,8 +18,7 @@ use Rattle.node.specs.declared.slots.Message.{Message}
 use Rattle.node.specs.declared.slots.Pending.{Pending}
 use Rattle.node.specs.declared.slots.Slot.{Slot}
 use Rattle.node.specs.Slots.{padded, noMessage, holding, keeping, restamped, confirmed, released, nonePending, abortPending, empty, isReceiver}
-use Rattle.node.specs.Slots.{frames, isSender, withParts, withMessage}
-use Rattle.node.specs.SetUp.{slotFor}
+use Rattle.node.specs.Slots.{payloadGiven, confirmationGiven, abortGiven, slotFor, isSender, withParts, withMessage}
 use Rattle.node.specs.Reachable.{longest, KeptMessage, KeptPending, KeptSlot}
 use Rattle.node.specs.Hear.{dataHeard, confirmationHeard, abortHeard, heardBy}
 use Rattle.node.specs.Request.{requested}
@@ -311,10 +310,7 @@ module _ (now : ℕ) (x : Slot) (k : KeptSlot now x) where
       p : Pending
       p = x .pending
 
-      by-code : (c₁ c₂ : Bool) → KeptPending (x .settings)
-          (cond c₁ (frames (p .payload) false (p .abort))
-          (cond c₂ (frames (p .payload) (p .confirmation) false)
-          (frames false (p .confirmation) (p .abort))))
+      by-code : (c₁ c₂ : Bool) → KeptPending (x .settings) (cond c₁ (confirmationGiven p) (cond c₂ (abortGiven p) (payloadGiven p)))
       by-code true c₂ =
           record { payload-sent = k .pending .payload-sent; confirmation-sent = λ h. contrary h refl; abort-received = k .pending .abort-received }
       by-code false true =

@@ -11,10 +11,10 @@ use Rattle.wire.specs.Identifiers.{streamOf, codeOf}
 use Rattle.wire.proofs.Frames.{frame-length}
 use Rattle.node.specs.declared.slots.Slot.{Slot}
 use Rattle.node.specs.declared.Node.{Node}
-use Rattle.node.specs.Slots.{empty, isFree, isOf}
+use Rattle.node.specs.Slots.{slotFor, empty, isFree, isOf}
 use Rattle.node.specs.Nodes.{fresh, slotCount, slotOf, onSlot, Outcome, Refusals}
 use Rattle.node.specs.Clock.{unbounded}
-use Rattle.node.specs.SetUp.{setUp, slotFor}
+use Rattle.node.specs.SetUp.{setUp}
 use Rattle.node.specs.Hear.{hear, heardBy}
 use Rattle.node.specs.Tick.{tick, tickSlot}
 use Rattle.node.specs.Request.{request, requested}

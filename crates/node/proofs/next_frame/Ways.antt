@@ -52,7 +52,8 @@ module _ (output : List ℕ) (n : Node) where
   answers : (o : Outcome) → o ≡ nextFrame output n → Answers (asGiven o) (over (o .bytes) output)
   answers o e = promised-written (Call.nextFrame output) n asGiven output o e
 
-  refused-at : (low : ℕ) → low ≡ lowestOrAbove (pendingIds (n .slots)) → {r : Reply} → Refuses (refusalsByLowest output low) r → Answers (asGiven (refused n r)) output
+  refused-at : (low : ℕ) → low ≡ lowestOrAbove (pendingIds (n .slots)) → {r : Reply} → Refuses (refusalsByLowest output low) r
+      → Answers (asGiven (refused n r)) output
   refused-at low is-lowest {r} why = answers (refused n r) (sym (next-cases output n .refused-if r (rw (← is-lowest) why)))
 
   pub short-output : length output < nextRoom → Answers (asGiven (refused n ShortOutput)) output

@@ -13,10 +13,10 @@ use Rattle.wire.specs.Settings.{sends, isPlain, isTwoMessage, maxDataReach, max
 use Rattle.node.specs.declared.slots.Message.{Message}
 use Rattle.node.specs.declared.slots.Slot.{Slot}
 use Rattle.node.specs.declared.Node.{Node}
-use Rattle.node.specs.Slots.{restamped, frames, isOf, isFree, isReceiver, isSender, withParts, withMessage}
+use Rattle.node.specs.Slots.{restamped, toSend, slotFor, isOf, isFree, isReceiver, isSender, withParts, withMessage}
 use Rattle.node.specs.Nodes.{fresh, slotOf, onSlot, Outcome, Refusals, unlessRefused, done}
 use Rattle.node.specs.Clock.{period, unbounded, rolled}
-use Rattle.node.specs.SetUp.{slotFor, setUpRefusals, setUp}
+use Rattle.node.specs.SetUp.{setUpRefusals, setUp}
 use Rattle.node.specs.Hear.{heardBy, deliveredAtOnce, hearRefusals, hear}
 use Rattle.node.specs.Request.{requested, requestRefusals, request}
 use Rattle.node.specs.NextFrame.{pendingIn, pendingIds, lowest, givenOut, payloadFor, give, nextRefusals, nextFrame}
@@ -79,7 +79,7 @@ requested-rolls : (now : ℕ) (payload : List ℕ) (x : Slot)
     → rollSlot (requested now payload x) ≡ requested (now % period) payload (rollSlot x)
 unfolding requested
 requested-rolls now payload x =
-    ap (λ (m : Message). withParts x m (frames true (isTwoMessage (x .settings)) false))
+    ap (λ (m : Message). withParts x m (toSend (isTwoMessage (x .settings))))
     (into rollMessage (isPlain (x .settings)) refl refl)
 
 request-rolls : (s : Stream) (payload : List ℕ) (u : Node) → rollOutcome (request s payload u) ≡ request s payload (roll u)

@@ -7,9 +7,9 @@ use Rattle.wire.specs.declared.ids.Stream.{Stream}
 use Rattle.wire.specs.declared.settings.Settings.{Settings}
 use Rattle.wire.specs.Settings.{legal}
 use Rattle.node.specs.declared.Node.{Node}
-use Rattle.node.specs.Slots.{isFree, onFirst, some}
+use Rattle.node.specs.Slots.{slotFor, isFree, onFirst, some}
 use Rattle.node.specs.Nodes.{hasSlot, withSlots, Outcome, done}
-use Rattle.node.specs.SetUp.{slotFor, setUpRefusals, setUp}
+use Rattle.node.specs.SetUp.{setUpRefusals, setUp}
 use Rattle.node.proofs.Cases.{Passes, Cases, cases}
 
 module _ (s : Stream) (settings : Settings) (n : Node) where

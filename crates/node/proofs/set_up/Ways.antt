@@ -12,9 +12,9 @@ use Rattle.wire.specs.declared.reply.Reply.the-variants.{BadSettings, TableFull
 use Rattle.wire.specs.Settings.{legal}
 use Rattle.node.specs.declared.slots.Slot.{Slot}
 use Rattle.node.specs.declared.Node.{Node}
-use Rattle.node.specs.Slots.{empty, isFree, isOf, some}
+use Rattle.node.specs.Slots.{slotFor, empty, isFree, isOf, some}
 use Rattle.node.specs.Nodes.{hasSlot, withSlots, Outcome, refused, done, asAnswered}
-use Rattle.node.specs.SetUp.{slotFor, setUpRefusals, setUp}
+use Rattle.node.specs.SetUp.{setUpRefusals, setUp}
 use Rattle.node.specs.Calls.{Call}
 use Rattle.node.proofs.Cases.{Refuses, here, later}
 use Rattle.node.proofs.set_up.Cases.{set-up-cases}

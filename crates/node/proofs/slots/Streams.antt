@@ -10,10 +10,9 @@ use Rattle.wire.specs.declared.ids.Stream.{Stream}
 use Rattle.wire.specs.declared.settings.Settings.{Settings}
 use Rattle.node.specs.declared.slots.Slot.{Slot}
 use Rattle.node.specs.declared.Node.{Node}
-use Rattle.node.specs.Slots.{empty, isFree, isOf, onFirst, some}
+use Rattle.node.specs.Slots.{slotFor, empty, isFree, isOf, onFirst, some}
 use Rattle.node.specs.Nodes.{slotOf, onSlot}
 use Rattle.node.specs.Reachable.{Distinct}
-use Rattle.node.specs.SetUp.{slotFor}
 use Rattle.node.specs.Hear.{heardBy}
 use Rattle.node.specs.Clock.{Clock}
 use Rattle.node.specs.Tick.{late, due, holdOver, lapsed, ageOf, tickSlot, ticked}

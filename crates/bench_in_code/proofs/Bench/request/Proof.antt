@@ -16,12 +16,12 @@ eight : (c : tie.Start) → length (c .args .t1 .modules) ≡ 8
 eight c = search (needs, length-of-mapped)
 
 returns : tie.Need-returns
-returns c = let s = c .before .before in nobody-answers _ (sym (past-is-dead (s .args .t1) (eight s) _ (omega arith))) _ _ _
+returns c = let s = c .before .before .before in c .nobody .ensures ∙ nobody-answers _ (sym (past-is-dead (s .args .t1) (eight s) _ (omega arith))) _ _ _
 
 returns-2 : tie.Need-returns-2
 returns-2 c =
-    let s = c .before .before .before .before .before in
-    nobody-answers _ (sym (read-live (s .args .t1) (eight s) _ (omega arith) _) ∙ not-true _ (c .if2 .taken)) _ _ _
+    let s = c .before .before .before .before .before .before in
+    c .nobody2 .ensures ∙ nobody-answers _ (sym (read-live (s .args .t1) (eight s) _ (omega arith) _) ∙ not-true _ (c .before .if2 .taken)) _ _ _
 
 returns-3 : tie.Need-returns-3
 returns-3 c =
@@ -33,5 +33,5 @@ returns-3 c =
 pub request-spec : {M : Type 1} → statement M
 request-spec =
     tie.close
-    (tie.spec returns (λ c. search needs) (λ c. search needs) returns-2 (λ c κs. search needs) (λ c κs. search needs)
-    (λ c. search needs) (λ c. search needs) returns-3)
+    (tie.spec (λ c κs. search needs) returns (λ c. search needs) (λ c. search needs) (λ c κs. search needs) returns-2
+    (λ c κs. search needs) (λ c κs. search needs) (λ c. search needs) (λ c. search needs) returns-3)

@@ -1,6 +1,6 @@
 -- `Bench::set_up` meets its contract: where no module is there, nobody answers; else its node does.
 use native.Mathlib.Omega.{arith}
-use mathlib.Core.Path.{_≡_}
+use mathlib.Core.Path.{_≡_, _∙_}
 use lib.ListN.{length}
 use borrow.Author.Tests.{lt-ltb, le-ltb}
 use Rattle.node.proofs.slots.Finding.{length-of-mapped}
@@ -15,7 +15,7 @@ eight : (c : tie.Start) → length (c .args .t1 .modules) ≡ 8
 eight c = search (needs, length-of-mapped)
 
 returns : tie.Need-returns
-returns c = let s = c .before in nobody-answers _ (le-ltb (s .args .who) 8 (omega arith)) _ _ _
+returns c = let s = c .before .before in c .nobody .ensures ∙ nobody-answers _ (le-ltb (s .args .who) 8 (omega arith)) _ _ _
 
 returns-2 : tie.Need-returns-2
 returns-2 c =
@@ -27,5 +27,5 @@ returns-2 c =
 pub set-up-spec : {M : Type 1} → statement M
 set-up-spec =
     tie.close
-    (tie.spec returns (λ c. search needs) (λ c. search needs) (λ c κs. search needs) (λ c κs. search needs) (λ c. search needs)
+    (tie.spec (λ c κs. search needs) returns (λ c. search needs) (λ c. search needs) (λ c κs. search needs) (λ c κs. search needs) (λ c. search needs)
     (λ c. search needs) returns-2)

@@ -15,7 +15,7 @@ use ghost.Atoms.{Atoms}
 use contract.Monad.{Fun, fact}
 use contract.Running.{givenOf, tables}
 use types.Kit.{Given, Go, ! }
-use types.Run.{look, stop, from, load, and-then, no-more}
+use types.Run.{and-then, no-more}
 use denote.Laws.{Is}
 use denote.Builtin.{u8}
 use denote.Plain.{uint-vals, uint-tells}
@@ -24,10 +24,8 @@ use denote.Slice.{sliceVal, slice-vals, Room, mut-slice-tells, shr-slice-tells}
 use denote.Signature.{typesAt}
 use denote.Struct.Laws as LL
 use denote.Triple.Entry.{Args, Vals, onEntry}
-use denote.Triple.Spec.{tripleOf}
-use denote.Triple.Statement.{Contract}
 use denote.Triple.Table.{cited}
-use denote.Triple.Walked.{walkOf}
+use Rattle.wire.proofs.Walking.{copied}
 use Rattle.wire.specs.declared.ids.BusId.{BusId}
 use Rattle.wire.specs.Delivered.{over}
 use Rattle.wire.proofs.ids.BusId as B
@@ -46,7 +44,7 @@ use Rattle.node.proofs.Node.hear.Met as called-thm
 use Rattle.module.specs.declared.tally.Tally.{Tally}
 use Rattle.module.specs.Tallies.{tallied}
 use Rattle.module.proofs.Counting.{tallyVal, Count}
-use Rattle.module.proofs.Calling.{owned, lefts, passes-on, lastly, leaves, proves, Besides, lending, lentOn, lends, typeOf, Made, walk-made}
+use Rattle.module.proofs.Calling.{Stated, Walked, owned, lefts, passes-on, leaves, proves, Besides, lending, lentOn, lends, typeOf, Made, walk-made}
 use Rattle.module.proofs.Answers as answer
 use Rattle.module.proofs.tally.Tally as T
 use Rattle.module.proofs.tally.count.Symbol as count-def
@@ -56,14 +54,6 @@ use Rattle.module.proofs.calls.hear.Key.{name as #f}
 use Rattle.module.proofs.calls.hear as f
 use Rattle.module.proofs.calls.hear.Statement as stated
 use Rattle.module.proofs.calls.hear.Code as code
-
-module _ {M : Type 1} (𝓤 : URA M) (H : Heap 𝓤) (A : Atoms 𝓤) (mem : Memory → SProp 𝓤) (run : Routine → Fun 𝓤) where
-  -- the contract of the node's call, and the contract in which the walk ends
-  abbrev Called : Contract 𝓤
-  Called = tripleOf 𝓤 H A called.signature (called.spec 𝓤 H A mem run)
-
-  abbrev Walk : Contract 𝓤
-  Walk = walkOf 𝓤 H A f.ended (lastly f.ended) (f.clauses 𝓤 H A mem run)
 
 module _ {M : Type 1} (𝓤 : URA M) (H : Heap 𝓤) (A : Atoms 𝓤) (W : Given 𝓤 H A) (mem : Memory → SProp 𝓤) (run : Routine → Fun 𝓤)
     (κ₀ κ₁ κ : Lft) (q₀ q₁ q : Share) (n : Node) (id : BusId) (dlc : ℕ) (p u : RefT (List ℕ)) (t : RefT Tally)
@@ -79,11 +69,11 @@ module _ {M : Type 1} (𝓤 : URA M) (H : Heap 𝓤) (A : Atoms 𝓤) (W : Given
     (LL.vals B.the-type B′.the-laws id, (vint w8 dlc ∷ [], (sliceVal (p .ptr) (length (p .now)) ∷ [], (sliceVal (u .ptr) (length (u .now)) ∷ [], tt)))),
   )
 
-  abbrev to-called : Called 𝓤 H A mem run .Ghost
+  abbrev to-called : Stated 𝓤 H A called.ended (called.clauses 𝓤 H A mem run) .Ghost
   to-called = (((κ₀, (κ₁, tt)), (q₀, (q₁, tt)), tt, asked, at), tt)
 
   -- and what this one is passed
-  abbrev entry : Walk 𝓤 H A mem run .Ghost
+  abbrev entry : Walked 𝓤 H A f.ended (f.clauses 𝓤 H A mem run) .Ghost
   entry = (
     (
       (κ₀, (κ₁, (κ, tt))),
@@ -100,7 +90,8 @@ module _ {M : Type 1} (𝓤 : URA M) (H : Heap 𝓤) (A : Atoms 𝓤) (W : Given
   Told o r zs = (r ≡ asDelivered o) × (zs ≡ over (o .bytes) (u .now))
 
   made : (C : Calls 𝓤 H) (Λ : Loops 𝓤 H) → Made (Go {0}) W C Λ code.function κ q t called.ended (called.clauses 𝓤 H A mem run) to-called
-      (onEntry 𝓤 H A f.signature (entry .0 .0) (entry .0 .1) (entry .0 .3) (entry .0 .4)) (Walk 𝓤 H A mem run .post entry)
+      (onEntry 𝓤 H A f.signature (entry .0 .0) (entry .0 .1) (entry .0 .3) (entry .0 .4))
+      (Walked 𝓤 H A f.ended (f.clauses 𝓤 H A mem run) .post entry)
   made C Λ = record {
     answer = answer.delivered 𝓤 H A W;
     ps = (N′.mir, LL.val N.the-type N′.the-laws n) ∷ (B′.mir, LL.val B.the-type B′.the-laws id) ∷ (tyInt w8, vint w8 dlc)
@@ -120,13 +111,14 @@ module _ {M : Type 1} (𝓤 : URA M) (H : Heap 𝓤) (A : Atoms 𝓤) (W : Given
     callee = #called;
     operands = copy (place 1 []) ∷ copy (place 2 []) ∷ copy (place 3 []) ∷ copy (place 4 []) ∷ copy (place 9 []) ∷ [];
     reads = λ b Γ.
-        and-then ! (load ! (from ! (stop !)) (look ! 13 refl)) (and-then ! (load ! (from ! (stop !)) (look ! 11 refl))
-        (and-then ! (load ! (from ! (stop !)) (look ! 9 refl)) (and-then ! (load ! (from ! (stop !)) (look ! 7 refl))
-        (and-then ! (load ! (from ! (stop !)) (look ! 1 refl)) (no-more !)))));
+        and-then ! (copied ! 13 refl) (and-then ! (copied ! 11 refl)
+        (and-then ! (copied ! 9 refl) (and-then ! (copied ! 7 refl)
+        (and-then ! (copied ! 1 refl) (no-more !)))));
     its-body = refl;
     told = λ r ws. Told (hear id dlc (p .now) (u .now) n) r (ws .1 .1 .1 .1 .0);
     tells = λ r ws.
-        fst∗ 𝓤 (fact 𝓤 (Told (hear id dlc (p .now) (u .now) n) r (ws .1 .1 .1 .1 .0))) (fact 𝓤 (Besides n (λ m. Told (rollOutcome (hear id dlc (p .now) (u .now) m)) r (ws .1 .1 .1 .1 .0))));
+        fst∗ 𝓤 (fact 𝓤 (Told (hear id dlc (p .now) (u .now) n) r (ws .1 .1 .1 .1 .0))) (fact 𝓤 (Besides n (λ m.
+        Told (rollOutcome (hear id dlc (p .now) (u .now) m)) r (ws .1 .1 .1 .1 .0))));
     splits = passes-on 𝓤 H A W (flft κ₀ q₀ ∷ flft κ₁ q₁ ∷ []) (owned (typesAt (called.signature .params) (κ₀, (κ₁, tt))) asked at) (flft κ q)
         (MutRef (named 2) κ T.the-row .own t (tallyVal t ∷ []));
     ends = λ r ws w e counted.
@@ -160,5 +152,6 @@ hear-spec 𝓤 H 𝓜 𝓖 𝓡 =
     (y .0 .3 .0) (y .0 .3 .1 .0) (y .0 .3 .1 .1 .0) (y .0 .3 .1 .1 .1 .0) (y .0 .3 .1 .1 .1 .1 .0) (y .0 .3 .1 .1 .1 .1 .1 .0)
     (are .0) (are .1 .0) (are .1 .1 .0 .1) (are .1 .1 .1 .0 .0 .1) (are .1 .1 .1 .1 .0 .0 .1) _ _)
     ! (𝓜 .mem) (𝓡 .run) fm
-    (cited 𝓤 H (Called 𝓤 H (𝓖 .A) (𝓜 .mem) (𝓡 .run)) 𝓜 𝓡 code.env #called called-def.routine code.calls-node·Node·hear (called-thm.met 𝓤 H 𝓜 𝓖 𝓡))
+    (cited 𝓤 H (Stated 𝓤 H (𝓖 .A) called.ended (called.clauses 𝓤 H (𝓖 .A) (𝓜 .mem) (𝓡 .run))) 𝓜 𝓡 code.env
+    #called called-def.routine code.calls-node·Node·hear (called-thm.met 𝓤 H 𝓜 𝓖 𝓡))
     (cited 𝓤 H (Count 𝓤 H (𝓖 .A) (𝓜 .mem) (𝓡 .run)) 𝓜 𝓡 code.env #count count-def.routine code.calls-module·tally·count (count-thm.met 𝓤 H 𝓜 𝓖 𝓡)))

@@ -14,7 +14,7 @@ use ghost.Atoms.{Atoms}
 use contract.Monad.{Fun, fact}
 use contract.Running.{givenOf, tables}
 use types.Kit.{Given, Go, step, ! }
-use types.Run.{look, stop, from, load, and-then, no-more}
+use types.Run.{and-then, no-more}
 use denote.Laws.{Is}
 use denote.Builtin.{u8}
 use denote.Ref.{RefT, MutRef, ptr-vals, mut-tells}
@@ -22,10 +22,8 @@ use denote.Slice.{sliceVal, slice-vals, Room, shr-slice-tells}
 use denote.Signature.{typesAt}
 use denote.Struct.Laws as LL
 use denote.Triple.Entry.{Args, Vals, onEntry}
-use denote.Triple.Spec.{tripleOf}
-use denote.Triple.Statement.{Contract}
 use denote.Triple.Table.{cited}
-use denote.Triple.Walked.{walkOf}
+use Rattle.wire.proofs.Walking.{copied}
 use Rattle.wire.specs.declared.ids.Stream.{Stream}
 use Rattle.wire.proofs.ids.Stream as I
 use Rattle.wire.proofs.ids.Stream.Laws as I′
@@ -43,7 +41,7 @@ use Rattle.node.proofs.Node.request.Met as called-thm
 use Rattle.module.specs.declared.tally.Tally.{Tally}
 use Rattle.module.specs.Tallies.{tallied}
 use Rattle.module.proofs.Counting.{tallyVal, Count}
-use Rattle.module.proofs.Calling.{owned, lefts, passes-on, lastly, leaves, proves, Besides, typeOf, Made, walk-made}
+use Rattle.module.proofs.Calling.{Stated, Walked, owned, lefts, passes-on, leaves, proves, Besides, typeOf, Made, walk-made}
 use Rattle.module.proofs.Answers as answer
 use Rattle.module.proofs.tally.Tally as T
 use Rattle.module.proofs.tally.count.Symbol as count-def
@@ -53,14 +51,6 @@ use Rattle.module.proofs.calls.request.Key.{name as #f}
 use Rattle.module.proofs.calls.request as f
 use Rattle.module.proofs.calls.request.Statement as stated
 use Rattle.module.proofs.calls.request.Code as code
-
-module _ {M : Type 1} (𝓤 : URA M) (H : Heap 𝓤) (A : Atoms 𝓤) (mem : Memory → SProp 𝓤) (run : Routine → Fun 𝓤) where
-  -- the contract of the node's call, and the contract in which the walk ends
-  abbrev Called : Contract 𝓤
-  Called = tripleOf 𝓤 H A called.signature (called.spec 𝓤 H A mem run)
-
-  abbrev Walk : Contract 𝓤
-  Walk = walkOf 𝓤 H A f.ended (lastly f.ended) (f.clauses 𝓤 H A mem run)
 
 module _ {M : Type 1} (𝓤 : URA M) (H : Heap 𝓤) (A : Atoms 𝓤) (W : Given 𝓤 H A) (mem : Memory → SProp 𝓤) (run : Routine → Fun 𝓤)
     (κ₀ κ : Lft) (q₀ q : Share) (n : Node) (s : Stream) (p : RefT (List ℕ)) (t : RefT Tally)
@@ -73,15 +63,16 @@ module _ {M : Type 1} (𝓤 : URA M) (H : Heap 𝓤) (A : Atoms 𝓤) (W : Given
   abbrev at : Vals called.signature (κ₀, tt)
   at = (LL.vals N.the-type N′.the-laws n, (LL.vals I.the-type I′.the-laws s, (sliceVal (p .ptr) (length (p .now)) ∷ [], tt)))
 
-  abbrev to-called : Called 𝓤 H A mem run .Ghost
+  abbrev to-called : Stated 𝓤 H A called.ended (called.clauses 𝓤 H A mem run) .Ghost
   to-called = (((κ₀, tt), (q₀, tt), tt, asked, at), tt)
 
   -- and what this one is passed
-  abbrev entry : Walk 𝓤 H A mem run .Ghost
+  abbrev entry : Walked 𝓤 H A f.ended (f.clauses 𝓤 H A mem run) .Ghost
   entry = (((κ₀, (κ, tt)), (q₀, (q, tt)), tt, (n, (s, (p, (t, tt)))), (at .0, (at .1 .0, (at .1 .1 .0, (tallyVal t ∷ [], tt))))), tt)
 
   made : (C : Calls 𝓤 H) (Λ : Loops 𝓤 H) → Made (Go {0}) W C Λ code.function κ q t called.ended (called.clauses 𝓤 H A mem run) to-called
-      (onEntry 𝓤 H A f.signature (entry .0 .0) (entry .0 .1) (entry .0 .3) (entry .0 .4)) (Walk 𝓤 H A mem run .post entry)
+      (onEntry 𝓤 H A f.signature (entry .0 .0) (entry .0 .1) (entry .0 .3) (entry .0 .4))
+      (Walked 𝓤 H A f.ended (f.clauses 𝓤 H A mem run) .post entry)
   made C Λ = record {
     answer = answer.answered 𝓤 H A W;
     ps = (N′.mir, LL.val N.the-type N′.the-laws n) ∷ (I′.mir, LL.val I.the-type I′.the-laws s)
@@ -98,8 +89,8 @@ module _ {M : Type 1} (𝓤 : URA M) (H : Heap 𝓤) (A : Atoms 𝓤) (W : Given
     callee = #called;
     operands = copy (place 1 []) ∷ copy (place 2 []) ∷ copy (place 3 []) ∷ [];
     reads = λ b Γ.
-        and-then ! (load ! (from ! (stop !)) (look ! 5 refl)) (and-then ! (load ! (from ! (stop !)) (look ! 3 refl))
-        (and-then ! (load ! (from ! (stop !)) (look ! 1 refl)) (no-more !)));
+        and-then ! (copied ! 5 refl) (and-then ! (copied ! 3 refl)
+        (and-then ! (copied ! 1 refl) (no-more !)));
     its-body = refl;
     told = λ r ws. r ≡ asAnswered (request s (p .now) n);
     tells = λ r ws. fst∗ 𝓤 (fact 𝓤 (r ≡ asAnswered (request s (p .now) n))) (fact 𝓤 (Besides n (λ m. r ≡ asAnswered (rollOutcome (request s (p .now) m)))));
@@ -128,5 +119,6 @@ request-spec 𝓤 H 𝓜 𝓖 𝓡 =
     (y .0 .0 .0) (y .0 .0 .1 .0) (y .0 .1 .0) (y .0 .1 .1 .0) (y .0 .3 .0) (y .0 .3 .1 .0) (y .0 .3 .1 .1 .0) (y .0 .3 .1 .1 .1 .0)
     (are .0) (are .1 .0) (are .1 .1 .0 .0 .1) _ _)
     ! (𝓜 .mem) (𝓡 .run) fm
-    (cited 𝓤 H (Called 𝓤 H (𝓖 .A) (𝓜 .mem) (𝓡 .run)) 𝓜 𝓡 code.env #called called-def.routine code.calls-node·Node·request (called-thm.met 𝓤 H 𝓜 𝓖 𝓡))
+    (cited 𝓤 H (Stated 𝓤 H (𝓖 .A) called.ended (called.clauses 𝓤 H (𝓖 .A) (𝓜 .mem) (𝓡 .run))) 𝓜 𝓡 code.env
+    #called called-def.routine code.calls-node·Node·request (called-thm.met 𝓤 H 𝓜 𝓖 𝓡))
     (cited 𝓤 H (Count 𝓤 H (𝓖 .A) (𝓜 .mem) (𝓡 .run)) 𝓜 𝓡 code.env #count count-def.routine code.calls-module·tally·count (count-thm.met 𝓤 H 𝓜 𝓖 𝓡)))

@@ -66,7 +66,8 @@ loop-again-2 c =
           (sym (c .before .any .ensures) ∙ c .if2 .left),
     )
 
-is-lowest : (c : tie.After-loop Inv-loop μ-loop Inv-loop2 μ-loop2) → c .before .loop .low ≡ lowestOrAbove (pendingIds (c .before .before .before .before .args .t1 .slots))
+is-lowest : (c : tie.After-loop Inv-loop μ-loop Inv-loop2 μ-loop2)
+    → c .before .loop .low ≡ lowestOrAbove (pendingIds (c .before .before .before .before .args .t1 .slots))
 is-lowest c =
     let front : c .before .loop .k ≡ 0 = omega arith in
     rw (c .before .loop .inv .1, front)
@@ -113,14 +114,8 @@ module _ (c : tie.Left-loop2 Inv-loop μ-loop Inv-loop2 μ-loop2) where
       (frame-has-slot (now (a .out)) (a .t1) (e .if1 .left) _ (is-lowest (p .before)) (p .if3 .left)
       _ (c .before .before .before .split .ensures) _ at-index)
 
-mul-s-3 : tie.Need-mul-s-3 Inv-loop μ-loop Inv-loop2 μ-loop2
-mul-s-3 c = omega (arith, inside c)
-
 element-copy-out-s-3 : tie.Need-element-copy-out-s-3 Inv-loop μ-loop Inv-loop2 μ-loop2
 element-copy-out-s-3 c = inside c
-
-mul-t : tie.Need-mul-t Inv-loop μ-loop Inv-loop2 μ-loop2
-mul-t c = omega (arith, inside (c .before .before .before .before .before .before))
 
 element-set-from-t : tie.Need-element-set-from-t Inv-loop μ-loop Inv-loop2 μ-loop2
 element-set-from-t c = inside (c .before .before .before .before .before .before)
@@ -165,11 +160,11 @@ next-frame-spec =
     (λ c. search needs)
     (λ c. search needs)
     loop2-again
-    mul-s-3
+    (λ c. omega (arith, inside c))
     element-copy-out-s-3
     (λ c κs. search needs)
     (λ c κs. search needs)
-    mul-t
+    (λ c. omega (arith, inside (c .before .before .before .before .before .before)))
     element-set-from-t
     (λ c. search needs)
     returns-3)

@@ -56,7 +56,8 @@ loop-again c =
     let a = c .before .before .before .before .before .before .before .before .before in
     let stirs = sym (c .before .before .before .before .before .stirs .ensures) ∙ c .before .before .before .before .if3 .taken in
     let least = sym (c .before .is-before .ensures) ∙ c .if5 .taken in
-    looked-at-least rolled _ (a .before .before .before .loop .inv) _ _ (omega arith) _ (a .age .ensures) stirs _ (c .before .before .before .key .ensures) least
+    looked-at-least rolled _ (a .before .before .before .loop .inv) _ _ (omega arith) _ (a .age .ensures) stirs _ (c .before .before .before .key .ensures)
+    least
 
 loop-again-2 : tie.Need-loop-again-2 Inv-loop μ-loop Inv-loop2 μ-loop2 Inv-loop3 μ-loop3
 loop-again-2 c =
@@ -99,12 +100,6 @@ loop2-holds c =
 -- the longest record fits behind those that are written
 room : (c : tie.In-loop2 Inv-loop μ-loop Inv-loop2 μ-loop2 Inv-loop3 μ-loop3) → c .before .loop2 .at + 16 ≤ length (c .before .loop2 .out)
 room c = next-has-room (c .before .loop2 .inv) noSlot (c .loop2-test .taken)
-
-sub-write-record : tie.Need-sub-write-record Inv-loop μ-loop Inv-loop2 μ-loop2 Inv-loop3 μ-loop3
-sub-write-record c = omega (arith, room (c .before .before .before))
-
-part-write-record-start : tie.Need-part-write-record-start Inv-loop μ-loop Inv-loop2 μ-loop2 Inv-loop3 μ-loop3
-part-write-record-start c = omega (arith, room (c .before .before .before))
 
 add-at : tie.Need-add-at Inv-loop μ-loop Inv-loop2 μ-loop2 Inv-loop3 μ-loop3
 add-at c =
@@ -219,8 +214,8 @@ tick-spec =
     (λ c. search needs)
     (λ c. search needs)
     (λ c κs. search needs)
-    sub-write-record
-    part-write-record-start
+    (λ c. omega (arith, room (c .before .before .before)))
+    (λ c. omega (arith, room (c .before .before .before)))
     (λ c. search needs)
     (λ c κs. search needs)
     add-at

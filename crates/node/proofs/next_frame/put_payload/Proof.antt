@@ -26,12 +26,6 @@ short c = omega (arith, payload-length (c .args .m) (eight-bytes c))
 loop-holds : tie.Need-loop-holds Inv-loop μ-loop
 loop-holds c = (omega arith, refl, refl)
 
-array-read-out : tie.Need-array-read-out Inv-loop μ-loop
-array-read-out c = omega (arith, short (c .before .before .before .before .before))
-
-slice-write-out : tie.Need-slice-write-out Inv-loop μ-loop
-slice-write-out c = omega (arith, short (c .before .before .before .before .before))
-
 loop-again : tie.Need-loop-again Inv-loop μ-loop
 loop-again c =
     let l = c .before in
@@ -59,8 +53,8 @@ put-payload-spec =
     μ-loop
     (λ c κs. search needs)
     loop-holds
-    array-read-out
-    slice-write-out
+    (λ c. omega (arith, short (c .before .before .before .before .before)))
+    (λ c. omega (arith, short (c .before .before .before .before .before)))
     (λ c. search needs)
     (λ c. search needs)
     loop-again

@@ -6,36 +6,19 @@ use mathlib.Core.Path.{_≡_, sym, _∙_}
 use borrow.Author.Needs.{needs}
 use Rattle.response.proofs.lent.solve_array.Statement.{statement}
 use Rattle.response.proofs.lent.solve_array.Tie as tie
-use Rattle.response.proofs.lent.solve_array.Reads as reads
-use Rattle.response.proofs.lent.solve_array.Lts as lts
-use Rattle.response.proofs.lent.lend.Reads as lend-reads
 
 -- the array has 65 places
 long : (c : tie.Start) → length (c .args .streams) ≡ 65
 long c = search (needs, length-of-mapped)
 
-lend-requires : tie.Need-lend-requires
-lend-requires c κs = search needs
-
-same-length : tie.Need-same-length
-same-length c = search needs
-
-returns : tie.Need-returns
-returns c = search needs
-
-lend-requires-2 : tie.Need-lend-requires-2
-lend-requires-2 c κs = search needs
-
-same-length-2 : tie.Need-same-length-2
-same-length-2 c = search needs
-
 returns-2 : tie.Need-returns-2
 returns-2 c =
     let start = c .before .before .before .before .before .before in
     let all : take (start .args .len) (start .args .streams) ≡ take 65 (start .args .streams) =
-    take-all (start .args .len) (start .args .streams) (omega (arith, long start, c .before .before .before .before .if1 .left)) ∙ sym (take-all 65 (start .args .streams) (omega (arith, long start))) in
+    take-all (start .args .len) (start .args .streams) (omega (arith, long start, c .before .before .before .before .if1 .left)) ∙ sym
+    (take-all 65 (start .args .streams) (omega (arith, long start))) in
     rw all (c .before .before .lend2 .ensures)
 
 pub solve-array-spec : {M : Type 1} → statement M
 solve-array-spec =
-    tie.close (tie.spec lend-requires same-length returns lend-requires-2 same-length-2 returns-2)
+    tie.close (tie.spec (λ c κs. search needs) (λ c. search needs) (λ c. search needs) (λ c κs. search needs) (λ c. search needs) returns-2)

@@ -1,4 +1,3 @@
-use mathlib.Core.Path.{_≡_}
 use Prim.Native.Nat.{_≤_, _-_, _*_}
 use borrow.Author.Needs.{needs}
 use native.Mathlib.Omega.{arith}
@@ -7,11 +6,6 @@ use Rattle.response.proofs.Claims.{mostClaimed, asked-most}
 use Rattle.response.proofs.Rounds.{ready-at, goes-on, ends-at, ends-past}
 use Rattle.response.proofs.recurrence.least_solution.Statement.{statement}
 use Rattle.response.proofs.recurrence.least_solution.Tie as tie
-use Rattle.response.proofs.recurrence.least_solution.Reads as reads
-use Rattle.response.proofs.recurrence.least_solution.Lts as lts
-use Rattle.response.proofs.recurrence.asked.Reads as asked-reads
-use Rattle.response.proofs.recurrence.larger.Reads as larger-reads
-use Rattle.response.proofs.recurrence.reach.Reads as reach-reads
 
 abbrev Inv-loop : tie.InvT-loop
 Inv-loop costs periods leads n blocking room w₀ w = NoneBelow costs periods leads n blocking 0 w
@@ -43,30 +37,17 @@ bounded c =
     rw (c .before .asked .ensures)
     (asked-most _ _ _ (ready-at (c .before .before .before .before .before .pre .0) (c .before .before .before .loop .w) (omega arith)))
 
-sub-ahead : tie.Need-sub-ahead Inv-loop μ-loop
-sub-ahead c = search needs
-
-mul-ahead : tie.Need-mul-ahead Inv-loop μ-loop
-mul-ahead c = omega (arith, bounded c)
-
-add-ahead : tie.Need-add-ahead Inv-loop μ-loop
-add-ahead c = omega (arith, bounded c)
-
 reach-requires-2 : tie.Need-reach-requires-2 Inv-loop μ-loop
 reach-requires-2 c κs =
     let q = c .before .before .before .before .before .pre in
     let at-w = ready-at (q .0) (c .before .before .before .loop .w) (omega arith) in
     (at-w, q .1, omega (arith, bounded c), q .2)
 
-larger-requires : tie.Need-larger-requires Inv-loop μ-loop
-larger-requires c κs = tt
-
-loop-less : tie.Need-loop-less Inv-loop μ-loop
-loop-less c = omega arith
-
 loop-again : tie.Need-loop-again Inv-loop μ-loop
 loop-again c =
-    rw (c .larger .ensures, c .before .before .before .asked .ensures) (goes-on (c .before .before .before .before .before .before .before .pre .0) _ _ _ (c .before .before .before .before .before .loop .inv) (c .before .reach2 .ensures))
+    rw (c .larger .ensures, c .before .before .before .asked .ensures)
+    (goes-on (c .before .before .before .before .before .before .before .pre .0) _ _ _ (c .before .before .before .before .before .loop .inv)
+    (c .before .reach2 .ensures))
 
 returns-2 : tie.Need-returns-2 Inv-loop μ-loop
 returns-2 c = ends-past (c .before .before .before .pre .0) _ _ _ (c .before .loop .inv) (c .loop-test .left)
@@ -82,11 +63,11 @@ least-solution-spec =
     asked-requires
     add-next
     returns
-    sub-ahead
-    mul-ahead
-    add-ahead
+    (λ c. search needs)
+    (λ c. omega (arith, bounded c))
+    (λ c. omega (arith, bounded c))
     reach-requires-2
-    larger-requires
-    loop-less
+    (λ c κs. tt)
+    (λ c. omega arith)
     loop-again
     returns-2)

@@ -7,8 +7,6 @@ use Prim.Native.Nat.{_≤_, _-_}
 use mathlib.Core.Path.{_≡_, refl}
 use Rattle.response.proofs.sheet.write.Statement.{statement}
 use Rattle.response.proofs.sheet.write.Tie as tie
-use Rattle.response.proofs.sheet.write.Reads as reads
-use Rattle.response.proofs.sheet.write.Lts as lts
 
 abbrev Inv-loop : tie.InvT-loop
 Inv-loop n out₀ numbers k₀ out k = (k ≤ n) × (out ≡ over (take k numbers) out₀)
@@ -27,24 +25,6 @@ kept c =
 
 loop-holds : tie.Need-loop-holds Inv-loop μ-loop
 loop-holds c = (omega arith, refl)
-
-mul-out : tie.Need-mul-out Inv-loop μ-loop
-mul-out c = search needs
-
-array-read-out : tie.Need-array-read-out Inv-loop μ-loop
-array-read-out c = search needs
-
-mul-out-2 : tie.Need-mul-out-2 Inv-loop μ-loop
-mul-out-2 c = search needs
-
-slice-write-out : tie.Need-slice-write-out Inv-loop μ-loop
-slice-write-out c = omega (arith, kept (c .before), c .before .before .pre .1)
-
-add-k : tie.Need-add-k Inv-loop μ-loop
-add-k c = search needs
-
-loop-less : tie.Need-loop-less Inv-loop μ-loop
-loop-less c = search needs
 
 loop-again : tie.Need-loop-again Inv-loop μ-loop
 loop-again c =
@@ -67,12 +47,12 @@ write-spec =
     Inv-loop
     μ-loop
     loop-holds
-    mul-out
-    array-read-out
-    mul-out-2
-    slice-write-out
-    add-k
-    loop-less
+    (λ c. search needs)
+    (λ c. search needs)
+    (λ c. search needs)
+    (λ c. omega (arith, kept (c .before), c .before .before .pre .1))
+    (λ c. search needs)
+    (λ c. search needs)
     loop-again
     same-length
     returns)

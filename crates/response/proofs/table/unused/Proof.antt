@@ -1,4 +1,4 @@
-use mathlib.Core.Path.{_≡_, refl}
+use mathlib.Core.Path.{_≡_}
 use Prim.Native.Nat.{_≤_, _-_}
 use borrow.Author.Needs.{needs}
 use native.Mathlib.Omega.{arith}
@@ -7,8 +7,6 @@ use Rattle.response.specs.Streams.{unused}
 use Rattle.response.proofs.Listed.{length-of-mapped, previous-listed, none-left}
 use Rattle.response.proofs.table.unused.Statement.{statement}
 use Rattle.response.proofs.table.unused.Tie as tie
-use Rattle.response.proofs.table.unused.Reads as reads
-use Rattle.response.proofs.table.unused.Lts as lts
 
 abbrev Inv-loop : tie.InvT-loop
 Inv-loop from len priority table ok₀ k₀ ok k = (from ≤ k) × (k ≤ len) × (ok ≡ unused priority (drop k (take len (table .streams))))
@@ -26,24 +24,13 @@ loop-holds c =
     let fits : c .args .len ≤ length (c .args .t1 .streams) = omega (arith, long c) in
     (omega arith, omega arith, rw (none-left _ _ fits))
 
-sub-k : tie.Need-sub-k Inv-loop μ-loop
-sub-k c = search needs
-
-mul-s : tie.Need-mul-s Inv-loop μ-loop
-mul-s c = search needs
-
-element-copy-out-s : tie.Need-element-copy-out-s Inv-loop μ-loop
-element-copy-out-s c = search needs
-
-loop-less : tie.Need-loop-less Inv-loop μ-loop
-loop-less c = search needs
-
 loop-again : tie.Need-loop-again Inv-loop μ-loop
 unfolding unused
 loop-again c =
-    let start = c .before .before .before .before in
+    let l = c .before .before .before in
+    let start = l .before in
     let fits : start .args .len ≤ length (start .args .t1 .streams) = omega (arith, long start) in
-    (omega arith, omega arith, rw (previous-listed _ _ fits (c .before .before .before .loop .k) (omega arith) (omega arith), ← c .before .before .before .loop .inv .2))
+    (omega arith, omega arith, rw (previous-listed _ _ fits (l .loop .k) (omega arith) (omega arith), ← l .loop .inv .2))
 
 returns : tie.Need-returns Inv-loop μ-loop
 returns c = let all : c .before .loop .k ≡ c .before .before .args .from = omega arith in rw (← all) (c .before .loop .inv .2)
@@ -55,9 +42,9 @@ unused-spec =
     Inv-loop
     μ-loop
     loop-holds
-    sub-k
-    mul-s
-    element-copy-out-s
-    loop-less
+    (λ c. search needs)
+    (λ c. search needs)
+    (λ c. search needs)
+    (λ c. search needs)
     loop-again
     returns)

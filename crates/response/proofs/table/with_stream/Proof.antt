@@ -3,14 +3,6 @@ use borrow.Author.Tests.{lt-ltb, le-ltb}
 use borrow.Author.Needs.{needs}
 use Rattle.response.proofs.table.with_stream.Statement.{statement}
 use Rattle.response.proofs.table.with_stream.Tie as tie
-use Rattle.response.proofs.table.with_stream.Reads as reads
-use Rattle.response.proofs.table.with_stream.Lts as lts
-
-mul-s : tie.Need-mul-s
-mul-s c = search needs
-
-element-set-from-s : tie.Need-element-set-from-s
-element-set-from-s c = search needs
 
 returns : tie.Need-returns
 unfolding withStream
@@ -21,4 +13,4 @@ unfolding withStream
 returns-2 c = rw (le-ltb _ _ (c .if1 .left))
 
 pub with-stream-spec : {M : Type 1} → statement M
-with-stream-spec = tie.close (tie.spec mul-s element-set-from-s returns returns-2)
+with-stream-spec = tie.close (tie.spec (λ c. search needs) (λ c. search needs) returns returns-2)

@@ -7,24 +7,6 @@ use Rattle.text.proofs.input.advance.Tie as tie
 enum-told : tie.Need-enum-told
 enum-told c = search needs
 
-enum-told-2 : tie.Need-enum-told-2
-enum-told-2 c = search needs
-
-enum-told-3 : tie.Need-enum-told-3
-enum-told-3 c = search needs
-
-flush-requires : tie.Need-flush-requires
-flush-requires c κs = search needs
-
-refill-requires : tie.Need-refill-requires
-refill-requires c κs = search needs
-
-enum-told-4 : tie.Need-enum-told-4
-enum-told-4 c = search needs
-
-flush-requires-2 : tie.Need-flush-requires-2
-flush-requires-2 c κs = search needs
-
 returns : tie.Need-returns
 returns c = rw (c .enum-told .given .1) ((refl, refl), refl)
 
@@ -42,12 +24,12 @@ advance-spec =
     tie.close
     (tie.spec
     enum-told
-    enum-told-2
-    enum-told-3
-    flush-requires
-    refill-requires
-    enum-told-4
-    flush-requires-2
+    (λ c. search needs)
+    (λ c. search needs)
+    (λ c κs. search needs)
+    (λ c κs. search needs)
+    (λ c. search needs)
+    (λ c κs. search needs)
     returns
     returns-2
     returns-3

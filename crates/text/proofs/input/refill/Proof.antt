@@ -5,27 +5,6 @@ use borrow.Author.Needs.{needs}
 use Rattle.text.proofs.input.refill.Statement.{statement}
 use Rattle.text.proofs.input.refill.Tie as tie
 
-least-requires : tie.Need-least-requires
-least-requires c κs = search needs
-
-least-requires-2 : tie.Need-least-requires-2
-least-requires-2 c κs = search needs
-
-sub-over : tie.Need-sub-over
-sub-over c = search needs
-
-kept-requires : tie.Need-kept-requires
-kept-requires c κs = search needs
-
-shift-requires : tie.Need-shift-requires
-shift-requires c κs = search needs
-
-fill-requires : tie.Need-fill-requires
-fill-requires c κs = search needs
-
-add-t8 : tie.Need-add-t8
-add-t8 c = search needs
-
 returns : tie.Need-returns
 returns c =
     let h = c .before .before in
@@ -40,11 +19,11 @@ pub refill-spec : {M : Type 1} → statement M
 refill-spec =
     tie.close
     (tie.spec
-    least-requires
-    least-requires-2
-    sub-over
-    kept-requires
-    shift-requires
-    fill-requires
-    add-t8
+    (λ c κs. search needs)
+    (λ c κs. search needs)
+    (λ c. search needs)
+    (λ c κs. search needs)
+    (λ c κs. search needs)
+    (λ c κs. search needs)
+    (λ c. search needs)
     returns)

@@ -18,12 +18,6 @@ returns c = (empty-is-none _ _ (c .if1 .taken), omega arith)
 loop-holds : tie.Need-loop-holds Inv-loop μ-loop
 loop-holds c = start _ _ (omega arith)
 
-shared-slice-read-digit : tie.Need-shared-slice-read-digit Inv-loop μ-loop
-shared-slice-read-digit c = omega arith
-
-digit-requires : tie.Need-digit-requires Inv-loop μ-loop
-digit-requires c κs = tt
-
 returns-2 : tie.Need-returns-2 Inv-loop μ-loop
 returns-2 c =
     let l = c .before .before .before .before in
@@ -34,25 +28,10 @@ returns-3 c =
     let l = c .before .before .before .before .before in
     (too-large (l .loop .inv) _ (omega arith) (c .before .before .digit .ensures) (omega arith) (omega arith), omega arith)
 
-mul-tens : tie.Need-mul-tens Inv-loop μ-loop
-mul-tens c = omega arith
-
-sub-if4 : tie.Need-sub-if4 Inv-loop μ-loop
-sub-if4 c = omega arith
-
 returns-4 : tie.Need-returns-4 Inv-loop μ-loop
 returns-4 c =
     let l = c .before .before .before .before .before .before in
     (too-large (l .loop .inv) _ (omega arith) (c .before .before .before .digit .ensures) (omega arith) (omega arith), omega arith)
-
-add-value : tie.Need-add-value Inv-loop μ-loop
-add-value c = omega arith
-
-add-i : tie.Need-add-i Inv-loop μ-loop
-add-i c = omega arith
-
-loop-less : tie.Need-loop-less Inv-loop μ-loop
-loop-less c = omega arith
 
 loop-again : tie.Need-loop-again Inv-loop μ-loop
 loop-again c =
@@ -70,15 +49,15 @@ decimal-spec =
     μ-loop
     returns
     loop-holds
-    shared-slice-read-digit
-    digit-requires
+    (λ c. omega arith)
+    (λ c κs. tt)
     returns-2
     returns-3
-    mul-tens
-    sub-if4
+    (λ c. omega arith)
+    (λ c. omega arith)
     returns-4
-    add-value
-    add-i
-    loop-less
+    (λ c. omega arith)
+    (λ c. omega arith)
+    (λ c. omega arith)
     loop-again
     returns-5)

@@ -11,11 +11,8 @@ returns c = simp (lt-ltb _ _ (c .if1 .taken))
 returns-2 : tie.Need-returns-2
 returns-2 c = simp (le-ltb _ _ (c .before .if1 .left), lt-ltb _ _ (c .if2 .taken))
 
-wide-requires : tie.Need-wide-requires
-wide-requires c κs = search needs
-
 returns-3 : tie.Need-returns-3
 returns-3 c = c .wide .ensures ∙ simp (le-ltb _ _ (c .before .before .if1 .left), le-ltb _ _ (c .before .if2 .left))
 
 pub digit-spec : {M : Type 1} → statement M
-digit-spec = tie.close (tie.spec returns returns-2 wide-requires returns-3)
+digit-spec = tie.close (tie.spec returns returns-2 (λ c κs. search needs) returns-3)

@@ -4,17 +4,8 @@ use borrow.Author.Needs.{needs}
 use Rattle.text.proofs.output.place_byte.Statement.{statement}
 use Rattle.text.proofs.output.place_byte.Tie as tie
 
-slice-write-out : tie.Need-slice-write-out
-slice-write-out c = search needs
-
-add-result : tie.Need-add-result
-add-result c = search needs
-
-same-length : tie.Need-same-length
-same-length c = search needs
-
 returns : tie.Need-returns
 returns c = stored _ _ _ (search needs)
 
 pub place-byte-spec : {M : Type 1} → statement M
-place-byte-spec = tie.close (tie.spec slice-write-out add-result same-length returns)
+place-byte-spec = tie.close (tie.spec (λ c. search needs) (λ c. search needs) (λ c. search needs) returns)

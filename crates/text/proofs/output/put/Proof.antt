@@ -4,20 +4,8 @@ use Rattle.text.proofs.OutputLaws.{put-there, put-past}
 use Rattle.text.proofs.output.put.Statement.{statement}
 use Rattle.text.proofs.output.put.Tie as tie
 
-room-requires : tie.Need-room-requires
-room-requires c κs = search needs
-
-place-requires : tie.Need-place-requires
-place-requires c κs = search needs
-
 returns : tie.Need-returns
 returns c = put-there (c .before .before .room .ensures .0) (c .before .before .before .before .if1 .taken) (c .place .ensures)
-
-flush-requires : tie.Need-flush-requires
-flush-requires c κs = search needs
-
-write-all-requires : tie.Need-write-all-requires
-write-all-requires c κs = search needs
 
 returns-2 : tie.Need-returns-2
 returns-2 c = put-past (c .before .before .before .before .if1 .left) (c .before .flush .ensures)
@@ -25,4 +13,4 @@ returns-2 c = put-past (c .before .before .before .before .if1 .left) (c .before
 pub put-spec : {M : Type 1} → statement M
 put-spec =
     tie.close
-    (tie.spec room-requires place-requires returns flush-requires write-all-requires returns-2)
+    (tie.spec (λ c κs. search needs) (λ c κs. search needs) returns (λ c κs. search needs) (λ c κs. search needs) returns-2)

@@ -5,14 +5,8 @@ use Rattle.text.proofs.OutputLaws.{put-there}
 use Rattle.text.proofs.output.put_byte.Statement.{statement}
 use Rattle.text.proofs.output.put_byte.Tie as tie
 
-room-requires : tie.Need-room-requires
-room-requires c κs = search needs
-
-place-byte-requires : tie.Need-place-byte-requires
-place-byte-requires c κs = search needs
-
 returns : tie.Need-returns
 returns c = put-there (c .before .before .room .ensures .0) (omega arith) (c .place-byte .ensures)
 
 pub put-byte-spec : {M : Type 1} → statement M
-put-byte-spec = tie.close (tie.spec room-requires place-byte-requires returns)
+put-byte-spec = tie.close (tie.spec (λ c κs. search needs) (λ c κs. search needs) returns)

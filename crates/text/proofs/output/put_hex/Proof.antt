@@ -6,28 +6,13 @@ use Rattle.text.proofs.PayloadLaws.{no-text, text-length}
 use Rattle.text.proofs.output.put_hex.Statement.{statement}
 use Rattle.text.proofs.output.put_hex.Tie as tie
 
-put-byte-requires : tie.Need-put-byte-requires
-put-byte-requires c κs = search needs
-
 returns : tie.Need-returns
 returns c = rw (no-text _ (c .before .before .if1 .taken)) (c .put-byte .ensures)
-
-room-requires : tie.Need-room-requires
-room-requires c κs = search needs
-
-place-hex-requires : tie.Need-place-hex-requires
-place-hex-requires c κs = search needs
 
 returns-2 : tie.Need-returns-2
 returns-2 c =
     let n = text-length (c .before .before .before .before .before .before .before .args .s .now) (omega arith) in
     put-there (c .before .before .room .ensures .0) (omega (arith, n)) (c .place-hex .ensures)
-
-flush-requires : tie.Need-flush-requires
-flush-requires c κs = search needs
-
-print-hex-requires : tie.Need-print-hex-requires
-print-hex-requires c κs = search needs
 
 returns-3 : tie.Need-returns-3
 returns-3 c =
@@ -38,11 +23,11 @@ pub put-hex-spec : {M : Type 1} → statement M
 put-hex-spec =
     tie.close
     (tie.spec
-    put-byte-requires
+    (λ c κs. search needs)
     returns
-    room-requires
-    place-hex-requires
+    (λ c κs. search needs)
+    (λ c κs. search needs)
     returns-2
-    flush-requires
-    print-hex-requires
+    (λ c κs. search needs)
+    (λ c κs. search needs)
     returns-3)

@@ -6,12 +6,6 @@ use borrow.Author.Needs.{needs}
 use Rattle.text.proofs.output.room.Statement.{statement}
 use Rattle.text.proofs.output.room.Tie as tie
 
-sub-if1 : tie.Need-sub-if1
-sub-if1 c = search needs
-
-flush-requires : tie.Need-flush-requires
-flush-requires c κs = search needs
-
 returns : tie.Need-returns
 returns c = (simp (le-leb _ _ (c .if1 .taken)), omega arith)
 
@@ -19,4 +13,4 @@ returns-2 : tie.Need-returns-2
 returns-2 c = (c .flush .ensures ∙ simp (lt-leb _ _ (c .before .before .if1 .left)), omega arith)
 
 pub room-spec : {M : Type 1} → statement M
-room-spec = tie.close (tie.spec sub-if1 flush-requires returns returns-2)
+room-spec = tie.close (tie.spec (λ c. search needs) (λ c κs. search needs) returns returns-2)

@@ -1,7 +1,7 @@
 -- `text::payloads::decode` meets its contract. The invariant: what is written stands before what is left.
 use Prim.Native.Nat.{_-_}
 use native.Mathlib.Omega.{arith}
-use lib.ListN.{length, length-set}
+use lib.ListN.{length}
 use Rattle.text.proofs.PayloadLaws.{Decoding, nothing-decoded, pair-there, small, pair-decoded, all-decoded}
 use Rattle.text.proofs.payloads.decode.Statement.{statement}
 use Rattle.text.proofs.payloads.decode.Tie as tie
@@ -15,17 +15,8 @@ abbrev μ-loop : tie.MeasureT-loop
 loop-holds : tie.Need-loop-holds Inv-loop μ-loop
 loop-holds c = nothing-decoded _ _ (c .before .before .pre .0)
 
-shared-slice-read-byte : tie.Need-shared-slice-read-byte Inv-loop μ-loop
-shared-slice-read-byte c = omega arith
-
-add-byte : tie.Need-add-byte Inv-loop μ-loop
-add-byte c = omega arith
-
 shared-slice-read-byte-2 : tie.Need-shared-slice-read-byte-2 Inv-loop μ-loop
 shared-slice-read-byte-2 c = pair-there (c .before .before .before .loop .inv) (omega arith)
-
-byte-requires : tie.Need-byte-requires Inv-loop μ-loop
-byte-requires c κs = tt
 
 cast-into : tie.Need-cast-into Inv-loop μ-loop
 cast-into c =
@@ -37,23 +28,11 @@ slice-write-into c =
     let l = c .before .before .before .before .loop .inv in
     omega (arith, pair-there l (omega arith))
 
-add-i : tie.Need-add-i Inv-loop μ-loop
-add-i c = omega arith
-
-add-k : tie.Need-add-k Inv-loop μ-loop
-add-k c = omega arith
-
-loop-less : tie.Need-loop-less Inv-loop μ-loop
-loop-less c = omega arith
-
 loop-again : tie.Need-loop-again Inv-loop μ-loop
 loop-again c =
     let l = c .before .before .before .before .loop .inv in
     let h = pair-there l (omega arith) in
     pair-decoded l h (c .byte .result) (omega arith) (c .byte .ensures)
-
-same-length : tie.Need-same-length Inv-loop μ-loop
-same-length c = omega arith
 
 returns : tie.Need-returns Inv-loop μ-loop
 returns c = all-decoded (c .before .loop .inv) (omega arith)
@@ -65,15 +44,15 @@ decode-spec =
     Inv-loop
     μ-loop
     loop-holds
-    shared-slice-read-byte
-    add-byte
+    (λ c. omega arith)
+    (λ c. omega arith)
     shared-slice-read-byte-2
-    byte-requires
+    (λ c κs. tt)
     cast-into
     slice-write-into
-    add-i
-    add-k
-    loop-less
+    (λ c. omega arith)
+    (λ c. omega arith)
+    (λ c. omega arith)
     loop-again
-    same-length
+    (λ c. omega arith)
     returns)

@@ -10,20 +10,11 @@ use Rattle.text.proofs.payloads.hex.Tie as tie
 returns : tie.Need-returns
 returns c = empty-refused _ _ _ (c .if1 .taken)
 
-shared-slice-read-if2 : tie.Need-shared-slice-read-if2
-shared-slice-read-if2 c = search needs
-
 returns-2 : tie.Need-returns-2
 returns-2 c = dash-empty _ _ _ (c .if2 .taken)
 
-add-if3 : tie.Need-add-if3
-add-if3 c = search needs
-
 returns-3 : tie.Need-returns-3
 returns-3 c = long-refused _ _ _ (c .before .if2 .left) (omega arith)
-
-are-pairs-requires : tie.Need-are-pairs-requires
-are-pairs-requires c κs = search needs
 
 returns-4 : tie.Need-returns-4
 returns-4 c = no-pairs _ _ _ (c .before .before .before .if2 .left) (sym (c .before .are-pairs .ensures) ∙ not-true _ (c .if4 .taken))
@@ -31,26 +22,24 @@ returns-4 c = no-pairs _ _ _ (c .before .before .before .if2 .left) (sym (c .bef
 decode-requires : tie.Need-decode-requires
 decode-requires c κs = (sym (c .before .before .are-pairs .ensures) ∙ not-false _ (c .before .if4 .left), omega arith)
 
-same-length : tie.Need-same-length
-same-length c = search needs
-
 returns-5 : tie.Need-returns-5
 returns-5 c =
     let t = c .before .before .before .before in
     let d = t .before .before .before in
-    pairs-are-hex _ _ _ (d .if2 .left) (omega arith) (omega arith) (sym (t .before .are-pairs .ensures) ∙ not-false _ (t .if4 .left)) (c .before .before .decode .ensures)
+    pairs-are-hex _ _ _ (d .if2 .left) (omega arith) (omega arith) (sym (t .before .are-pairs .ensures) ∙ not-false _ (t .if4 .left))
+    (c .before .before .decode .ensures)
 
 pub hex-spec : {M : Type 1} → statement M
 hex-spec =
     tie.close
     (tie.spec
     returns
-    shared-slice-read-if2
+    (λ c. search needs)
     returns-2
-    add-if3
+    (λ c. search needs)
     returns-3
-    are-pairs-requires
+    (λ c κs. search needs)
     returns-4
     decode-requires
-    same-length
+    (λ c. search needs)
     returns-5)

@@ -8,20 +8,11 @@ use Rattle.text.proofs.payloads.nibble.Tie as tie
 returns : tie.Need-returns
 returns c = simp (lt-ltb _ _ (c .if1 .taken))
 
-wide-requires : tie.Need-wide-requires
-wide-requires c κs = search needs
-
 returns-2 : tie.Need-returns-2
 returns-2 c = c .wide .ensures ∙ simp (le-ltb _ _ (c .before .before .if1 .left), le-leb _ _ (c .before .if2 .taken))
 
 returns-3 : tie.Need-returns-3
 returns-3 c = simp (le-ltb _ _ (c .before .before .if1 .left), lt-leb _ _ (c .before .if2 .left), lt-ltb _ _ (c .if3 .taken))
-
-wide-requires-2 : tie.Need-wide-requires-2
-wide-requires-2 c κs = search needs
-
-add-result : tie.Need-add-result
-add-result c = search needs
 
 returns-4 : tie.Need-returns-4
 returns-4 c =
@@ -40,10 +31,10 @@ nibble-spec =
     tie.close
     (tie.spec
     returns
-    wide-requires
+    (λ c κs. search needs)
     returns-2
     returns-3
-    wide-requires-2
-    add-result
+    (λ c κs. search needs)
+    (λ c. search needs)
     returns-4
     returns-5)

@@ -1,29 +1,9 @@
 -- `text::payloads::payload_at` meets its contract.
-use Prim.Native.Nat.{_≤_}
-use mathlib.Core.Path.{ap, _∙_}
 use lib.ListN.{length}
 use borrow.Author.Needs.{needs}
 use Rattle.text.proofs.PayloadLaws.{payload-found, short-found}
 use Rattle.text.proofs.payloads.payload_at.Statement.{statement}
 use Rattle.text.proofs.payloads.payload_at.Tie as tie
-
-word-at-requires : tie.Need-word-at-requires
-word-at-requires c κs = search needs
-
-sub-hex : tie.Need-sub-hex
-sub-hex c = search needs
-
-part-hex-start : tie.Need-part-hex-start
-part-hex-start c = search needs
-
-part-hex-end : tie.Need-part-hex-end
-part-hex-end c = search needs
-
-hex-requires : tie.Need-hex-requires
-hex-requires c κs = search needs
-
-same-length : tie.Need-same-length
-same-length c = search needs
 
 returns : tie.Need-returns
 returns c =
@@ -38,10 +18,10 @@ pub payload-at-spec : {M : Type 1} → statement M
 payload-at-spec =
     tie.close
     (tie.spec
-    word-at-requires
-    sub-hex
-    part-hex-start
-    part-hex-end
-    hex-requires
-    same-length
+    (λ c κs. search needs)
+    (λ c. search needs)
+    (λ c. search needs)
+    (λ c. search needs)
+    (λ c κs. search needs)
+    (λ c. search needs)
     returns)

@@ -5,19 +5,10 @@ use borrow.Author.Needs.{needs}
 use Rattle.text.proofs.words.word_at.Statement.{statement}
 use Rattle.text.proofs.words.word_at.Tie as tie
 
-least-requires : tie.Need-least-requires
-least-requires c κs = search needs
-
-find-requires : tie.Need-find-requires
-find-requires c κs = search needs
-
-add-t6 : tie.Need-add-t6
-add-t6 c = search needs
-
 returns : tie.Need-returns
 returns c =
     let s = c .before .before .before .args in
     (word-found (s .line .now) (s .at) _ _ (c .before .least .ensures) (c .find .ensures .0), omega arith)
 
 pub word-at-spec : {M : Type 1} → statement M
-word-at-spec = tie.close (tie.spec least-requires find-requires add-t6 returns)
+word-at-spec = tie.close (tie.spec (λ c κs. search needs) (λ c κs. search needs) (λ c. search needs) returns)

@@ -6,15 +6,6 @@ use Rattle.wire.proofs.Classes.{no-class, no-code}
 use Rattle.wire.proofs.class.carries.Statement.{statement}
 use Rattle.wire.proofs.class.carries.Tie as tie
 
-mul-result : tie.Need-mul-result
-mul-result c = search needs
-
-index-1-result : tie.Need-index-1-result
-index-1-result c = search needs
-
-index-2-result : tie.Need-index-2-result
-index-2-result c = search needs
-
 returns : tie.Need-returns
 unfolding carries
 returns c = refl
@@ -27,4 +18,4 @@ returns-3 c = no-class _ (c .before .args .code) (c .if1 .left)
 
 pub carries-spec : {M : Type 1} → statement M
 carries-spec =
-    tie.close (tie.spec mul-result index-1-result index-2-result returns returns-2 returns-3)
+    tie.close (tie.spec (λ c. search needs) (λ c. search needs) (λ c. search needs) returns returns-2 returns-3)

@@ -29,15 +29,6 @@ header-keeps-length c = length-sets (now (c .args .out)) 0 (header (c .args .str
 eight-bytes : (c : tie.Start Inv-loop μ-loop) → length (c .args .t3) ≡ 8
 eight-bytes c = search needs
 
-add-out : tie.Need-add-out Inv-loop μ-loop
-add-out c = search needs
-
-cast-out : tie.Need-cast-out Inv-loop μ-loop
-cast-out c = search needs
-
-slice-write-out : tie.Need-slice-write-out Inv-loop μ-loop
-slice-write-out c = search needs
-
 slice-write-out-2 : tie.Need-slice-write-out-2 Inv-loop μ-loop
 slice-write-out-2 c = simp length-set (omega arith)
 
@@ -47,47 +38,20 @@ slice-write-out-3 c = simp length-set (omega arith)
 slice-write-out-4 : tie.Need-slice-write-out-4 Inv-loop μ-loop
 slice-write-out-4 c = simp length-set (omega arith)
 
-cast-out-2 : tie.Need-cast-out-2 Inv-loop μ-loop
-cast-out-2 c = search needs
-
 slice-write-out-5 : tie.Need-slice-write-out-5 Inv-loop μ-loop
 slice-write-out-5 c = simp length-set (omega arith)
-
-cast-out-3 : tie.Need-cast-out-3 Inv-loop μ-loop
-cast-out-3 c = search needs
 
 slice-write-out-6 : tie.Need-slice-write-out-6 Inv-loop μ-loop
 slice-write-out-6 c = simp length-set (omega arith)
 
-cast-out-4 : tie.Need-cast-out-4 Inv-loop μ-loop
-cast-out-4 c = search needs
-
 slice-write-out-7 : tie.Need-slice-write-out-7 Inv-loop μ-loop
 slice-write-out-7 c = simp length-set (omega arith)
-
-cast-out-5 : tie.Need-cast-out-5 Inv-loop μ-loop
-cast-out-5 c = search needs
 
 slice-write-out-8 : tie.Need-slice-write-out-8 Inv-loop μ-loop
 slice-write-out-8 c = simp length-set (omega arith)
 
 loop-holds : tie.Need-loop-holds Inv-loop μ-loop
 loop-holds c = (search needs, refl, paste-zero (with-header c) 8 (c .args .t3))
-
-array-read-out : tie.Need-array-read-out Inv-loop μ-loop
-array-read-out c = search needs
-
-add-out-2 : tie.Need-add-out-2 Inv-loop μ-loop
-add-out-2 c = search needs
-
-slice-write-out-9 : tie.Need-slice-write-out-9 Inv-loop μ-loop
-slice-write-out-9 c = omega (arith, header-keeps-length (c .before .before))
-
-add-i : tie.Need-add-i Inv-loop μ-loop
-add-i c = search needs
-
-loop-less : tie.Need-loop-less Inv-loop μ-loop
-loop-less c = search needs
 
 loop-again : tie.Need-loop-again Inv-loop μ-loop
 loop-again c =
@@ -99,9 +63,6 @@ loop-again c =
       rw (c .before .loop .inv .2, add-one)
           (paste-suc (with-header s) 8 bytes i 0 (omega (arith, header-keeps-length s)) (omega (arith, eight-bytes s))),
     )
-
-add-result : tie.Need-add-result Inv-loop μ-loop
-add-result c = search needs
 
 same-length : tie.Need-same-length Inv-loop μ-loop
 same-length c = c .before .loop .inv .1 ∙ header-keeps-length (c .before .before)
@@ -122,27 +83,27 @@ put-record-spec =
     (tie.spec
     Inv-loop
     μ-loop
-    add-out
-    cast-out
-    slice-write-out
+    (λ c. search needs)
+    (λ c. search needs)
+    (λ c. search needs)
     slice-write-out-2
     slice-write-out-3
     slice-write-out-4
-    cast-out-2
+    (λ c. search needs)
     slice-write-out-5
-    cast-out-3
+    (λ c. search needs)
     slice-write-out-6
-    cast-out-4
+    (λ c. search needs)
     slice-write-out-7
-    cast-out-5
+    (λ c. search needs)
     slice-write-out-8
     loop-holds
-    array-read-out
-    add-out-2
-    slice-write-out-9
-    add-i
-    loop-less
+    (λ c. search needs)
+    (λ c. search needs)
+    (λ c. omega (arith, header-keeps-length (c .before .before)))
+    (λ c. search needs)
+    (λ c. search needs)
     loop-again
-    add-result
+    (λ c. search needs)
     same-length
     returns)

@@ -7,43 +7,19 @@ use Rattle.wire.proofs.Reading.{no-head, no-body, other-kind, too-short
 use Rattle.wire.proofs.delivered.record_at.Statement.{statement}
 use Rattle.wire.proofs.delivered.record_at.Tie as tie
 
-no-record-requires : tie.Need-no-record-requires
-no-record-requires c κs = search needs
-
 returns : tie.Need-returns
 returns c =
     let a = c .before .before .before .args in c .no-record .ensures ∙ no-head (now (a .bytes)) (a .at) (omega arith)
 
-no-record-requires-2 : tie.Need-no-record-requires-2
-no-record-requires-2 c κs = search needs
-
 returns-2 : tie.Need-returns-2
 returns-2 c =
     let a = c .before .before .before .before .args in c .no-record2 .ensures ∙ no-head (now (a .bytes)) (a .at) (omega arith)
-
-two-at-requires : tie.Need-two-at-requires
-two-at-requires c κs = search needs
-
-add-if3 : tie.Need-add-if3
-add-if3 c = search needs
-
-no-record-requires-3 : tie.Need-no-record-requires-3
-no-record-requires-3 c κs = search needs
 
 returns-3 : tie.Need-returns-3
 returns-3 c =
     let a = c .before .before .before .before .before .before .args in
     let follow = c .before .before .two-at .ensures .0 in
     c .no-record3 .ensures ∙ no-body (now (a .bytes)) (a .at) (omega (arith, follow))
-
-add-two-at : tie.Need-add-two-at
-add-two-at c = search needs
-
-two-at-requires-2 : tie.Need-two-at-requires-2
-two-at-requires-2 c κs = search needs
-
-no-record-requires-4 : tie.Need-no-record-requires-4
-no-record-requires-4 c κs = search needs
 
 returns-4 : tie.Need-returns-4
 returns-4 c =
@@ -52,9 +28,6 @@ returns-4 c =
     c .no-record4 .ensures
     ∙ other-kind (now (a .bytes)) (a .at) (omega arith) (omega (arith, follow)) (λ e. c .before .if4 .taken (c .before .before .two-at2 .ensures .0 ∙ e))
 
-no-record-requires-5 : tie.Need-no-record-requires-5
-no-record-requires-5 c κs = search needs
-
 returns-5 : tie.Need-returns-5
 returns-5 c =
     let a = c .before .before .before .before .before .before .before .before .before .args in
@@ -62,27 +35,12 @@ returns-5 c =
     let kind = sym (c .before .before .before .two-at2 .ensures .0) ∙ c .before .before .if4 .left in
     c .no-record5 .ensures ∙ too-short (now (a .bytes)) (a .at) (omega arith) (omega (arith, follow)) kind (omega (arith, follow))
 
-no-record-requires-6 : tie.Need-no-record-requires-6
-no-record-requires-6 c κs = search needs
-
 returns-6 : tie.Need-returns-6
 returns-6 c =
     let a = c .before .before .before .before .before .before .before .before .before .before .args in
     let follow = c .before .before .before .before .before .before .two-at .ensures .0 in
     let kind = sym (c .before .before .before .before .two-at2 .ensures .0) ∙ c .before .before .before .if4 .left in
     c .no-record6 .ensures ∙ too-long (now (a .bytes)) (a .at) (omega arith) (omega (arith, follow)) kind (omega (arith, follow))
-
-add-payload : tie.Need-add-payload
-add-payload c = search needs
-
-add-stream-at : tie.Need-add-stream-at
-add-stream-at c = search needs
-
-stream-at-requires : tie.Need-stream-at-requires
-stream-at-requires c κs = search needs
-
-add-t19 : tie.Need-add-t19
-add-t19 c = search needs
 
 returns-7 : tie.Need-returns-7
 returns-7 c =
@@ -96,24 +54,24 @@ pub record-at-spec : {M : Type 1} → statement M
 record-at-spec =
     tie.close
     (tie.spec
-    no-record-requires
+    (λ c κs. search needs)
     returns
-    no-record-requires-2
+    (λ c κs. search needs)
     returns-2
-    two-at-requires
-    add-if3
-    no-record-requires-3
+    (λ c κs. search needs)
+    (λ c. search needs)
+    (λ c κs. search needs)
     returns-3
-    add-two-at
-    two-at-requires-2
-    no-record-requires-4
+    (λ c. search needs)
+    (λ c κs. search needs)
+    (λ c κs. search needs)
     returns-4
-    no-record-requires-5
+    (λ c κs. search needs)
     returns-5
-    no-record-requires-6
+    (λ c κs. search needs)
     returns-6
-    add-payload
-    add-stream-at
-    stream-at-requires
-    add-t19
+    (λ c. search needs)
+    (λ c. search needs)
+    (λ c κs. search needs)
+    (λ c. search needs)
     returns-7)

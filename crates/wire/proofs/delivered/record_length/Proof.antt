@@ -7,9 +7,6 @@ use Rattle.wire.specs.Delivered.{recordLength}
 use Rattle.wire.proofs.delivered.record_length.Statement.{statement}
 use Rattle.wire.proofs.delivered.record_length.Tie as tie
 
-add-t4 : tie.Need-add-t4
-add-t4 c = search needs
-
 returns : tie.Need-returns
 unfolding recordLength
 returns c = rw (le-leb (c .before .args .payload) maxPayload (omega arith))
@@ -19,4 +16,4 @@ unfolding recordLength
 returns-2 c = rw (lt-leb (c .before .args .payload) maxPayload (omega arith))
 
 pub record-length-spec : {M : Type 1} → statement M
-record-length-spec = tie.close (tie.spec add-t4 returns returns-2)
+record-length-spec = tie.close (tie.spec (λ c. search needs) returns returns-2)

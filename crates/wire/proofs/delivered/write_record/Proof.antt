@@ -12,12 +12,6 @@ use Rattle.wire.proofs.delivered.write_record.Tie as tie
 eight-bytes : (c : tie.Start) → length (c .args .bytes) ≡ 8
 eight-bytes c = search needs
 
-at-most-eight-requires : tie.Need-at-most-eight-requires
-at-most-eight-requires c κs = search needs
-
-add-if1 : tie.Need-add-if1
-add-if1 c = search needs
-
 returns : tie.Need-returns
 returns c =
     let start = c .before .before .before in
@@ -25,12 +19,6 @@ returns c =
     let long = cut-length (a .stream) (a .len) (a .bytes) (eight-bytes start) in
     let none = does-not-fit (recordOf (a .stream) (take (a .len) (a .bytes))) (now (a .out)) (omega arith) in
     (rw none, rw none)
-
-put-record-requires : tie.Need-put-record-requires
-put-record-requires c κs = search needs
-
-same-length : tie.Need-same-length
-same-length c = search needs
 
 returns-2 : tie.Need-returns-2
 returns-2 c =
@@ -45,4 +33,4 @@ returns-2 c =
 pub write-record-spec : {M : Type 1} → statement M
 write-record-spec =
     tie.close
-    (tie.spec at-most-eight-requires add-if1 returns put-record-requires same-length returns-2)
+    (tie.spec (λ c κs. search needs) (λ c. search needs) returns (λ c κs. search needs) (λ c. search needs) returns-2)

@@ -7,18 +7,6 @@ use Rattle.module.proofs.Places.{has-place}
 use Rattle.module.proofs.tally.Tally.counted.Statement.{statement}
 use Rattle.module.proofs.tally.Tally.counted.Tie as tie
 
-place-requires : tie.Need-place-requires
-place-requires c κs = search needs
-
-mul-n : tie.Need-mul-n
-mul-n c = omega (arith, c .place .ensures, has-place (c .before .args .reply))
-
-element-copy-out-n : tie.Need-element-copy-out-n
-element-copy-out-n c = omega (arith, c .place .ensures, has-place (c .before .args .reply))
-
-add-self : tie.Need-add-self
-add-self c = search needs
-
 mul-self : tie.Need-mul-self
 mul-self c = omega (arith, c .before .before .place .ensures, has-place (c .before .before .before .args .reply))
 
@@ -36,4 +24,12 @@ returns-2 c = simp (← c .before .before .place .ensures, le-ltb _ _ (c .if1 .l
 pub counted-spec : {M : Type 1} → statement M
 counted-spec =
     tie.close
-    (tie.spec place-requires mul-n element-copy-out-n add-self mul-self element-write-self returns returns-2)
+    (tie.spec
+    (λ c κs. search needs)
+    (λ c. omega (arith, c .place .ensures, has-place (c .before .args .reply)))
+    (λ c. omega (arith, c .place .ensures, has-place (c .before .args .reply)))
+    (λ c. search needs)
+    mul-self
+    element-write-self
+    returns
+    returns-2)

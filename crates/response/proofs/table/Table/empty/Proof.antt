@@ -2,8 +2,6 @@ use Rattle.response.specs.Tables.{emptyTable}
 use mathlib.Core.Path.{refl}
 use Rattle.response.proofs.table.Table.empty.Statement.{statement}
 use Rattle.response.proofs.table.Table.empty.Tie as tie
-use Rattle.response.proofs.table.Table.empty.Reads as reads
-use Rattle.response.proofs.table.Table.empty.Lts as lts
 
 returns : tie.Need-returns
 unfolding emptyTable

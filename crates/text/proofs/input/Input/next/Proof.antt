@@ -6,21 +6,6 @@ use Rattle.text.proofs.InputLaws.{Found, whole-line, read-more, last-li
 use Rattle.text.proofs.input.Input.next.Statement.{statement}
 use Rattle.text.proofs.input.Input.next.Tie as tie
 
-least-requires : tie.Need-least-requires
-least-requires c κs = search needs
-
-least-requires-2 : tie.Need-least-requires-2
-least-requires-2 c κs = search needs
-
-find-requires : tie.Need-find-requires
-find-requires c κs = search needs
-
-add-t12 : tie.Need-add-t12
-add-t12 c = search needs
-
-kind-of-requires : tie.Need-kind-of-requires
-kind-of-requires c κs = search needs
-
 found : (c : tie.After-find)
     → let start = c .before .before .before .before .args in
     Found (start .buf .now) (start .self) (c .before .before .least2 .result) (c .before .before .before .least .result) (c .find .result)
@@ -31,9 +16,6 @@ returns c = (whole-line (found (c .before .before)) (c .kind-of .result) (c .bef
 
 returns-2 : tie.Need-returns-2
 returns-2 c = (read-more (found (c .before .before)) (c .before .if1 .left) (not-true _ (c .if2 .taken)), omega arith)
-
-kind-of-requires-2 : tie.Need-kind-of-requires-2
-kind-of-requires-2 c κs = search needs
 
 returns-3 : tie.Need-returns-3
 returns-3 c =
@@ -52,13 +34,13 @@ pub next-spec : {M : Type 1} → statement M
 next-spec =
     tie.close
     (tie.spec
-    least-requires
-    least-requires-2
-    find-requires
-    add-t12
-    kind-of-requires
+    (λ c κs. search needs)
+    (λ c κs. search needs)
+    (λ c κs. search needs)
+    (λ c. search needs)
+    (λ c κs. search needs)
     returns
     returns-2
-    kind-of-requires-2
+    (λ c κs. search needs)
     returns-3
     returns-4)

@@ -6,12 +6,6 @@ use Rattle.wire.specs.Identifiers.{maxStream, maxCode, join}
 use Rattle.wire.proofs.ids.Stream.join.Statement.{statement}
 use Rattle.wire.proofs.ids.Stream.join.Tie as tie
 
-mul-t7 : tie.Need-mul-t7
-mul-t7 c = search needs
-
-add-t8 : tie.Need-add-t8
-add-t8 c = search needs
-
 returns : tie.Need-returns
 unfolding join
 returns c =
@@ -29,4 +23,4 @@ unfolding join
 returns-3 c = rw (lt-leb (c .before .args .self .0) maxStream (omega arith))
 
 pub join-spec : {M : Type 1} → statement M
-join-spec = tie.close (tie.spec mul-t7 add-t8 returns returns-2 returns-3)
+join-spec = tie.close (tie.spec (λ c. search needs) (λ c. search needs) returns returns-2 returns-3)
