@@ -1,14 +1,14 @@
 -- How many messages a node holds: none after set up, one more at most when a frame was heard, and fewer after the tick that ends the quiet.
-use mathlib.Core.Path.{_≡_, refl, sym, ap, subst, _∙_}
+use mathlib.Core.Path.{_≡_, refl, ap, subst, _∙_}
 use mathlib.Core.Bool.{Bool, true, false, cond}
 use mathlib.Core.Logic.{_⊎_, inl, inr}
 use mathlib.Core.List.{List, [], _∷_, _++_, map}
-use Prim.Native.Nat.{ℕ, zero, suc, _+_, _-_, _≤_, _<_, min}
+use Prim.Native.Nat.{ℕ, suc, _+_, _-_, _≤_, _<_, min}
 use native.Mathlib.Nat.{min-eq-left, min-eq-right, le-of-lt}
 use native.Mathlib.Omega.{arith}
 use borrow.Author.Tests.{leb-true, leb-false}
 use lib.Dec.{leb}
-use lib.ListN.{length, replicate, replicate-append-replicate}
+use lib.ListN.{length, replicate-append-replicate}
 use Rattle.wire.specs.declared.ids.Stream.{Stream}
 use Rattle.wire.specs.declared.ids.BusId.{BusId}
 use Rattle.wire.specs.declared.settings.Settings.{Settings}
@@ -167,7 +167,8 @@ unfolding onFirst
 first-free-held s x [] = omega arith
 first-free-held s x (y ∷ ys) = go (first-free-held s x ys) (isFree y)
   where
-    go : heldIn (onFirst isFree (λ z. slotFor s x) ys) ≤ heldIn ys → (t : Bool) → heldIn (cond t (slotFor s x ∷ ys) (y ∷ onFirst isFree (λ z. slotFor s x) ys)) ≤ heldIn (y ∷ ys)
+    go : heldIn (onFirst isFree (λ z. slotFor s x) ys) ≤ heldIn ys → (t : Bool)
+        → heldIn (cond t (slotFor s x ∷ ys) (y ∷ onFirst isFree (λ z. slotFor s x) ys)) ≤ heldIn (y ∷ ys)
     go behind true = omega arith
     go behind false = omega (arith, behind)
 

@@ -1,24 +1,21 @@
 -- The code's playback holds a node whose ticks are counted without bound; jumping, ticking and hearing keep that.
-use mathlib.Core.Path.{_≡_, refl, sym, ap, subst, _∙_}
+use mathlib.Core.Path.{_≡_, refl, sym, ap, _∙_}
 use mathlib.Core.Bool.{Bool, true, false, cond}
 use mathlib.Core.List.{List, [], _∷_, map}
-use Prim.Native.Nat.{ℕ, _+_, _-_, _%_, _≤_, _<_, min}
+use Prim.Native.Nat.{ℕ, _+_, _-_, _%_, _≤_, min}
 use native.Mathlib.Nat.{mod-add-mod}
 use native.Mathlib.Omega.{arith}
 use borrow.Author.Tests.{le-ltb}
 use lib.ListN.{length}
 use Rattle.wire.specs.declared.ids.BusId.{BusId}
-use Rattle.heard.specs.declared.record.Heard.{Heard}
 use Rattle.node.specs.declared.slots.Slot.{Slot}
 use Rattle.node.specs.declared.Node.{Node}
-use Rattle.node.specs.Nodes.{Outcome}
 use Rattle.node.specs.Hear.{hearRoom, hear}
 use Rattle.node.specs.Tick.{ageOf, tickRoom, tick}
 use Rattle.node.specs.Clock.{period, unbounded, rolled}
 use Rattle.node.specs.Calls.{Call, outcome, rollSlot, roll, rollOutcome}
 use Rattle.node.specs.Reachable.{longest, KeptSlot, All, Kept}
 use Rattle.node.proofs.rollover.SameAnswers.{age-rolls, kept-counted, rolls}
-use Rattle.node.proofs.kept.EveryCall.{kept-by}
 use Rattle.node.proofs.tick.Cases.{tick-cases}
 use Rattle.playback.specs.declared.Playback.{Playback}
 use Rattle.playback.specs.Deliveries.{room}

@@ -1,23 +1,21 @@
 -- A node stays as it is, but for its counter, for as long as `quiet` says, and no longer.
 use mathlib.Core.Path.{_≡_, refl, sym, ap, _∙_}
 use mathlib.Core.Bool.{Bool, true, false, cond, not, _&&_}
-use mathlib.Core.Logic.{_⊎_, inl, inr}
-use mathlib.Core.List.{List, [], _∷_, _++_, map}
+use mathlib.Core.List.{List, [], _∷_}
 use Prim.Native.Nat.{ℕ, zero, suc, _+_, _-_, _%_, _≤_, _<_, min}
 use native.Mathlib.Nat.{add-zero}
 use native.Mathlib.Omega.{arith}
 use borrow.Author.Tests.{eqb-true, eqb-false}
-use lib.ListN.{length, replicate}
 use Rattle.wire.specs.Settings.{sends, isTwoMessage}
 use Rattle.node.specs.declared.slots.Slot.{Slot}
 use Rattle.node.specs.declared.Node.{Node}
 use Rattle.node.specs.Slots.{some}
 use Rattle.node.specs.Nodes.{Outcome, done}
-use Rattle.node.specs.Tick.{lapsed, late, due, holdOver, holdLength, ageOf, tickSlot, dueSlots, recordsFrom, tick}
+use Rattle.node.specs.Tick.{holdLength, ageOf, recordsFrom, tick}
 use Rattle.node.specs.Selection.{mayStir, stirs}
 use Rattle.node.specs.Clock.{Clock, period, unbounded, rolled}
 use Rattle.node.specs.Calls.{Call, outcome, afterFrom, Answer, answerOf, answersFrom}
-use Rattle.node.specs.Reachable.{longest, KeptSlot, All, Kept}
+use Rattle.node.specs.Reachable.{longest, All}
 use Rattle.node.proofs.Choices.{contrary}
 use Rattle.node.proofs.slots.Table.{all-weaken}
 use Rattle.node.proofs.tick.Cases.{tick-cases}
@@ -25,7 +23,7 @@ use Rattle.node.proofs.tick.Loops.{stirsAt, still-tick}
 use Rattle.node.proofs.tick.Stirring.{stirs-sender, stirs-waiting, stirs-ready, young-is-not-late, young-is-not-due, young-is-held-on, young-is-still}
 use Rattle.playback.specs.Deliveries.{room}
 use Rattle.playback.specs.Quiet.{withSlot, quietIn, quiet, standing, ticks, silent, NothingButCounts, JumpIsTicking, RolledJumpIsTicking}
-use Rattle.playback.specs.Quiet.{QuietWithoutEnd, heldIn, NoLongerQuiet}
+use Rattle.playback.specs.Quiet.{QuietWithoutEnd}
 
 -- ── a slot ──
 -- what is no older than it gets at the longest is not changed
@@ -98,11 +96,23 @@ module _ (clock : Clock) where
     quiet-ticks zero n all = (refl, refl)
     quiet-ticks (suc k) n all =
         let (node, answers) = quiet-ticks k (standing (clock .next (n .counter)) n) (goes-on (n .counter) k (n .slots) all) in
-        let one = quiet-tick k n all in
-        (
+        let one = quiet-tick k n all in (
           ap (λ (o : Outcome). afterFrom clock (o .node) (ticks k)) one ∙ node,
           ap (λ (o : Outcome). answerOf o ∷ answersFrom clock (o .node) (ticks k)) one ∙ ap (λ (l : List Answer). silent ∷ l) answers,
         )
+
+-- so many at most
+pub quiet-at-most : (clock : Clock) (most : ℕ) (n : Node) → quiet clock most n ≤ most
+unfolding quietIn withSlot
+quiet-at-most clock most n = go (n .slots)
+  where
+    one : (held : Bool) (mine others : ℕ) → others ≤ most → cond held (min mine others) others ≤ most
+    one true mine others h = omega arith
+    one false mine others h = h
+
+    go : (xs : List Slot) → quietIn clock (n .counter) most xs ≤ most
+    go [] = omega arith
+    go (x ∷ xs) = one (x .message .held) _ (quietIn clock (n .counter) most xs) (go xs)
 
 -- ── with counts without bound, and with the counter that rolls over ──
 advanced-unbounded : (k now : ℕ) → advanced unbounded k now ≡ now + k

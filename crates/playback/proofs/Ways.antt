@@ -3,7 +3,6 @@ use mathlib.Core.Path.{_≡_, refl, sym, ap, _∙_}
 use mathlib.Core.Bool.{Bool, true, false, not, _&&_}
 use mathlib.Core.List.{List}
 use Prim.Native.Nat.{ℕ, suc, _+_, _-_, _%_, _≤_, _<_, min}
-use native.Mathlib.Omega.{arith}
 use lib.Dec.{eqb}
 use lib.ListN.{length, take, drop, getD, drop-of-length-le}
 use borrow.Author.Tests.{eq-eqb, ne-eqb, lt-ltb, le-ltb}
@@ -16,7 +15,6 @@ use Rattle.heard.specs.declared.reply.Reply.{Reply}
 use Rattle.heard.specs.declared.reply.Reply.the-variants.{Done, ShortOutput, CutRecord}
 use Rattle.heard.specs.Replies.{numberOf}
 use Rattle.heard.specs.Reading.{heardAt}
-use Rattle.heard.specs.Recordings.{recordIn}
 use Rattle.node.specs.declared.Answered.{Answered}
 use Rattle.node.specs.declared.Delivered.{Delivered}
 use Rattle.node.specs.Nodes.{asAnswered, asDelivered}
@@ -32,7 +30,6 @@ use Rattle.node.proofs.Choices.{either-way}
 use Rattle.node.proofs.slots.Finding.{noSlot}
 use Rattle.node.proofs.slots.Downward.{step-down}
 use Rattle.playback.specs.declared.Playback.{Playback}
-use Rattle.playback.specs.declared.set_up.Prepared.{Prepared}
 use Rattle.playback.specs.declared.step.Way.the-variants.{On, MoreBytes, MoreRoom, Over}
 use Rattle.playback.specs.declared.step.Stepped.{Stepped}
 use Rattle.playback.specs.Gaps.{gapFrom}

@@ -1,8 +1,8 @@
 -- Quiet stretches: for how many ticks a node stays as it is but for its counter, read from its slots, and that ticking so often is no more than
 -- moving the counter.
-use Prim.Native.Nat.{ℕ, zero, suc, _+_, _-_, _%_, _≤_, _<_, min}
+use Prim.Native.Nat.{ℕ, suc, _+_, _-_, _%_, _≤_, _<_, min}
 use mathlib.Core.Path.{_≡_}
-use mathlib.Core.Bool.{Bool, false, cond}
+use mathlib.Core.Bool.{false, cond}
 use mathlib.Core.List.{List, [], _∷_}
 use lib.ListN.{replicate}
 use Rattle.wire.specs.declared.reply.Reply.the-variants.{Done}

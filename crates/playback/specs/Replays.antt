@@ -1,6 +1,6 @@
 -- THE REPLAY of a recording on one node, with ticks counted without bound: what is delivered, the reply, and the offset.
 use Prim.Native.Nat.{ℕ, _+_}
-use mathlib.Core.Bool.{Bool, cond}
+use mathlib.Core.Bool.{cond}
 use mathlib.Core.List.{List, [], _∷_, _++_}
 use lib.ListN.{replicate}
 use lib.Dec.{eqb}

@@ -1,6 +1,6 @@
 -- Whole runs of a replay: settings set up one after the other, then steps, of which nothing is known but that each kept its promise; and that
 -- they give what the definition says, with ticks counted without bound.
-use Prim.Native.Nat.{ℕ, suc, _+_, _≤_, _<_}
+use Prim.Native.Nat.{ℕ, _+_, _≤_, _<_}
 use mathlib.Core.Path.{_≡_}
 use mathlib.Core.Bool.{Bool, true, false}
 use mathlib.Core.Logic.{_⊎_}
@@ -47,11 +47,13 @@ pub record Lent (recording : List ℕ) (at : ℕ) : Type 0 where
   pub place : length gone ≡ at
   pub none-beyond : ended ≡ true → beyond ≡ []
 
-module _ {recording : List ℕ} {at : ℕ} where
-  -- the promise of a step: of what it returns, and of what it leaves in the lent output
-  abbrev pub Promised : Lent recording at → Playback → Stepped → (left : List ℕ) → Type 0
-  Promised l p r left =
-      let s = step (l .window) (l .ended) (l .output) p in (r ≡ asStepped s) × (left ≡ over (s .bytes) (l .output))
+-- the promise of a step: of what it returns, and of what it leaves in the lent output
+abbrev pub StepPromises : (window : List ℕ) → (ended : Bool) → (output : List ℕ) → Playback → Stepped → (left : List ℕ) → Type 0
+StepPromises window ended output p r left =
+    (r ≡ asStepped (step window ended output p)) × (left ≡ over (step window ended output p .bytes) output)
+
+abbrev pub Promised : {recording : List ℕ} {at : ℕ} → Lent recording at → Playback → Stepped → (left : List ℕ) → Type 0
+Promised l p r left = StepPromises (l .window) (l .ended) (l .output) p r left
 
 -- what the caller reads in the output, at the ticks that the step answers
 abbrev pub seen : Stepped → (left : List ℕ) → List Delivery
@@ -101,11 +103,11 @@ abbrev pub EveryReplay : Type 0
 EveryReplay =
     (settings : List (Stream × Settings)) (recording : List ℕ) (r : Replayed) → Run settings recording r → r ≡ replayedIn64 (replay settings recording)
 
--- and 64 bits are enough for 281 terabytes
-abbrev pub Exact : Type 0
-Exact =
-    (settings : List (Stream × Settings)) (recording : List ℕ) → length recording < 281474976710656
-    → replayedIn64 (replay settings recording) ≡ replay settings recording
+-- and nothing else, where the recording has fewer than 2^48 bytes: 64 bits are enough then
+abbrev pub ExactReplay : Type 0
+ExactReplay =
+    (settings : List (Stream × Settings)) (recording : List ℕ) (r : Replayed) → length recording < 281474976710656 → Run settings recording r
+    → r ≡ replay settings recording
 
 -- it ends: no more steps are taken than the recording has bytes, however long the gaps are
 abbrev pub Ends : Type 0
@@ -117,7 +119,7 @@ Ends =
 abbrev pub Fed : Type 0
 Fed =
     (recording : List ℕ) (at : ℕ) (l : Lent recording at) (p : Playback) (r : Stepped) (left : List ℕ) → Promised l p r left
-    → AreBytes (l .window) → tickRoom ≤ length (l .output) → (l .ended ≡ true) ⊎ (mostAsked ≤ length (l .window)) → (r .way ≡ On) ⊎ (r .way ≡ Over)
+    → tickRoom ≤ length (l .output) → (l .ended ≡ true) ⊎ (AreBytes (l .window) × (mostAsked ≤ length (l .window))) → (r .way ≡ On) ⊎ (r .way ≡ Over)
 
 -- so a whole run there is
 abbrev pub SomeRun : Type 0

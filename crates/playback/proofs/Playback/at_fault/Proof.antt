@@ -9,16 +9,16 @@ use Rattle.playback.proofs.Playback.at_fault.Tie as tie
 returns : tie.Need-returns
 returns c =
     let a = c .before .before .before .before .args in
+    let number = c .before .before .before .number .ensures in
     c .stopped .ensures
-    ∙ ap asStepped
-    (more-may-follow (a .self) (a .reply) (a .ended) _ _ (c .before .before .before .number .ensures) (c .before .before .number2 .ensures) (c .before .if1 .taken))
+    ∙ ap asStepped (more-may-follow (a .self) (a .reply) (a .ended) _ _ number (c .before .before .number2 .ensures) (c .before .if1 .taken))
 
 returns-2 : tie.Need-returns-2
 returns-2 c =
     let a = c .before .before .before .before .args in
+    let number = c .before .before .before .number .ensures in
     c .stopped2 .ensures
-    ∙ ap asStepped
-    (no-more-follows (a .self) (a .reply) (a .ended) _ _ (c .before .before .before .number .ensures) (c .before .before .number2 .ensures) (c .before .if1 .left))
+    ∙ ap asStepped (no-more-follows (a .self) (a .reply) (a .ended) _ _ number (c .before .before .number2 .ensures) (c .before .if1 .left))
 
 pub at-fault-spec : {M : Type 1} → statement M
 at-fault-spec =

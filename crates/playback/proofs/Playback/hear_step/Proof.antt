@@ -15,7 +15,8 @@ returns c =
     let s = c .before .before .before .before .before .before .before .before .before .before .before in
     let a = s .args in
     let long : a .read .next - a .read .payload ≡ a .read .length = omega (arith, s .pre .0) in
-    hears-once (a .self) (a .read) (now (a .window)) (now (a .out)) _ _ _ _ long (c .before .before .before .before .hear .ensures .0) (c .wrapping-add-u64 .ensures)
+    let heard = c .before .before .before .before .hear .ensures .0 in
+    hears-once (a .self) (a .read) (now (a .window)) (now (a .out)) _ _ _ _ long heard (c .wrapping-add-u64 .ensures)
 
 pub hear-step-spec : {M : Type 1} → statement M
 hear-step-spec =

@@ -2,7 +2,7 @@
 use borrow.Author.Needs.{needs}
 use borrow.Author.Tests.{not-true, not-false}
 use native.Mathlib.Omega.{arith}
-use mathlib.Core.Path.{_≡_, refl, sym, ap, _∙_}
+use mathlib.Core.Path.{_≡_, refl}
 use denote.Ref.{now}
 use Rattle.heard.proofs.Passed.{within}
 use Rattle.playback.proofs.Ways.{nothing-left, not-read, no-room, to-a-tick, to-the-record, does, fault-writes-nothing}
@@ -35,8 +35,10 @@ returns-4 c =
     let s = c .before .before .before .before .before .before .before .before in
     let a = s .before .before .before .before .before .before .before .before .args in
     let read = s .before .before .before .before .heard-at in
-    let e = to-a-tick (now (a .window)) (a .ended) (now (a .out)) (a .self) (s .before .before .before .before .before .if1 .left) (read .result) (read .ensures)
-    (not-false _ (s .before .before .if2 .left)) (omega arith) _ _ (s .gap .ensures) (c .before .before .before .before .before .before .quiet .ensures) _
+    let more = s .before .before .before .before .before .if1 .left in
+    let ok = not-false _ (s .before .before .if2 .left) in
+    let still = c .before .before .before .before .before .before .quiet .ensures in
+    let e = to-a-tick (now (a .window)) (a .ended) (now (a .out)) (a .self) more (read .result) (read .ensures) ok (omega arith) _ _ (s .gap .ensures) still _
     (c .before .before .before .before .before .jumped .ensures) (c .before .before .before .before .if4 .taken) in
     does (now (a .window)) (a .ended) (now (a .out)) (a .self) e (c .before .before .tick-step .ensures .0) (c .before .before .tick-step .ensures .1)
 
@@ -53,8 +55,10 @@ returns-5 c =
     let s = c .before .before .before .before .before .before .before .before in
     let a = s .before .before .before .before .before .before .before .before .args in
     let read = s .before .before .before .before .heard-at in
-    let e = to-the-record (now (a .window)) (a .ended) (now (a .out)) (a .self) (s .before .before .before .before .before .if1 .left) (read .result) (read .ensures)
-    (not-false _ (s .before .before .if2 .left)) (omega arith) _ _ (s .gap .ensures) (c .before .before .before .before .before .before .quiet .ensures) _
+    let more = s .before .before .before .before .before .if1 .left in
+    let ok = not-false _ (s .before .before .if2 .left) in
+    let still = c .before .before .before .before .before .before .quiet .ensures in
+    let e = to-the-record (now (a .window)) (a .ended) (now (a .out)) (a .self) more (read .result) (read .ensures) ok (omega arith) _ _ (s .gap .ensures) still _
     (c .before .before .before .before .before .jumped .ensures) (c .before .before .before .before .if4 .left) in
     does (now (a .window)) (a .ended) (now (a .out)) (a .self) e (c .before .before .hear-step .ensures .0) (c .before .before .hear-step .ensures .1)
 

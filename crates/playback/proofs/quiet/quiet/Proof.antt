@@ -1,12 +1,11 @@
 -- `quiet` meets its contract: the loop goes down through the slots with what is found of those that it has passed.
 use borrow.Author.Needs.{needs}
 use native.Mathlib.Omega.{arith}
-use mathlib.Core.Path.{_≡_, refl, sym, ap, _∙_}
+use mathlib.Core.Path.{_≡_, _∙_}
 use Prim.Native.Nat.{_≤_}
-use lib.ListN.{length, drop, drop-of-length-le}
+use lib.ListN.{length, drop}
 use Rattle.node.specs.Clock.{rolled}
-use Rattle.node.proofs.slots.Finding.{noSlot, length-of-mapped}
-use Rattle.node.proofs.slots.Downward.{step-down}
+use Rattle.node.proofs.slots.Finding.{length-of-mapped}
 use Rattle.playback.specs.Quiet.{quietIn}
 use Rattle.playback.proofs.Ways.{quiet-past-the-end, quiet-one-more}
 use Rattle.playback.proofs.quiet.quiet.Statement.{statement}
