@@ -1,8 +1,8 @@
 // Text for a program that goes by lines: the lines of standard input, the words of a line with the
-// numbers and payloads that they say, and what the program prints.
+// numbers and payloads that they say, and what the program prints; and bytes of standard input that are no text.
 //
-// Only `input::advance` reads and only `input::advance` and `output` print, which no contract can speak of. Of all else a
-// function's contract says everything that it answers and writes.
+// Only `input::advance` and `window::read` read and only `input::advance` and `output` print, which no contract can speak of. Of
+// all else a function's contract says everything that it answers and writes.
 pub mod comments;
 pub mod input;
 pub mod numbers;
