@@ -14,9 +14,9 @@ use Rattle.wire.specs.declared.ids.BusId.{BusId}
 use Rattle.wire.specs.declared.settings.Settings.{Settings}
 use Rattle.node.specs.declared.slots.Slot.{Slot}
 use Rattle.node.specs.declared.Node.{Node}
-use Rattle.node.specs.Slots.{noMessage, released, abortPending, isFree, withParts, withMessage, onFirst}
+use Rattle.node.specs.Slots.{noMessage, released, abortPending, slotFor, isFree, withParts, withMessage, onFirst}
 use Rattle.node.specs.Nodes.{Outcome}
-use Rattle.node.specs.SetUp.{slotFor, setUp}
+use Rattle.node.specs.SetUp.{setUp}
 use Rattle.node.specs.Hear.{hear}
 use Rattle.node.specs.Tick.{lapsed, late, due, holdOver, ageOf, tickSlot, tickRoom, tick}
 use Rattle.node.specs.Clock.{unbounded}
