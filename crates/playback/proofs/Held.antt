@@ -14,7 +14,7 @@ use Rattle.wire.specs.declared.ids.BusId.{BusId}
 use Rattle.wire.specs.declared.settings.Settings.{Settings}
 use Rattle.node.specs.declared.slots.Slot.{Slot}
 use Rattle.node.specs.declared.Node.{Node}
-use Rattle.node.specs.Slots.{noMessage, released, abortPending, isFree, withParts, withMessage, onFirst, slotFor}
+use Rattle.node.specs.Slots.{noMessage, released, abortPending, slotFor, isFree, withParts, withMessage, onFirst}
 use Rattle.node.specs.Nodes.{Outcome}
 use Rattle.node.specs.SetUp.{setUp}
 use Rattle.node.specs.Hear.{hear}
