@@ -13,3 +13,4 @@ pub mod Refused
 pub mod Listing
 pub mod SameAsListing
 pub mod Selection
+pub mod SlotOrder
