@@ -3,4 +3,7 @@ pub mod Reordered
 pub mod Settled
 pub mod Records
 pub mod EveryCall
+pub mod InPlace
+pub mod InOnePass
+pub mod InStreamOrder
 pub mod BothOrders

@@ -14,3 +14,4 @@ pub mod Listing
 pub mod SameAsListing
 pub mod Selection
 pub mod SlotOrder
+pub mod StreamOrder

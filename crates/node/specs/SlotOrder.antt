@@ -8,14 +8,14 @@ use Rattle.wire.specs.declared.settings.Settings.{Settings}
 use Rattle.node.specs.declared.slots.Slot.{Slot}
 use Rattle.node.specs.declared.Node.{Node}
 use Rattle.node.specs.Slots.{empty, slotFor, isFree, onFirst, some}
-use Rattle.node.specs.Nodes.{fresh, withSlots, Outcome, unlessRefused, done}
+use Rattle.node.specs.Nodes.{withSlots, Outcome, unlessRefused, done}
 use Rattle.node.specs.Clock.{Clock}
 use Rattle.node.specs.SetUp.{setUpRefusals}
 use Rattle.node.specs.Hear
 use Rattle.node.specs.Tick
 use Rattle.node.specs.Request
 use Rattle.node.specs.NextFrame
-use Rattle.node.specs.Calls.{Call, outcome, afterFrom, Answer, answerOf, answersFrom}
+use Rattle.node.specs.Calls.{Call, outcome, afterFrom, after, Answer, answerOf, answersFrom}
 use Rattle.node.specs.Reachable.{All, Distinct}
 
 -- no two slots are of one stream, and a free one is empty
@@ -23,7 +23,7 @@ pub record Settled (xs : List Slot) : Type 0 where
   pub distinct : Distinct xs
   pub free : All (λ x. x .used ≡ false → x ≡ empty) xs
 
--- the same slots in some order, and the same counter
+-- the same slots, which are settled, in some order; and the same counter
 pub record SameSlots (n m : Node) : Type 0 where
   pub settled : Settled (n .slots)
   pub slots : List·Permᴰ (n .slots) (m .slots)
@@ -59,13 +59,15 @@ outcomeIn put clock (Call.tick output) n = Tick.tick clock output n
 outcomeIn put clock (Call.request s payload) n = Request.request s payload n
 outcomeIn put clock (Call.nextFrame output) n = NextFrame.nextFrame output n
 
-abbrev pub afterIn : Layout → Clock → Node → List Call → Node
-afterIn put clock n [] = n
-afterIn put clock n (c ∷ cs) = afterIn put clock (outcomeIn put clock c n .node) cs
+-- histories of calls that do this
+module _ (does : Call → Node → Outcome) where
+  abbrev pub afterBy : Node → List Call → Node
+  afterBy n [] = n
+  afterBy n (c ∷ cs) = afterBy (does c n .node) cs
 
-abbrev pub answersIn : Layout → Clock → Node → List Call → List Answer
-answersIn put clock n [] = []
-answersIn put clock n (c ∷ cs) = answerOf (outcomeIn put clock c n) ∷ answersIn put clock (outcomeIn put clock c n .node) cs
+  abbrev pub answersBy : Node → List Call → List Answer
+  answersBy n [] = []
+  answersBy n (c ∷ cs) = answerOf (does c n) ∷ answersBy (does c n .node) cs
 
 -- ── the statements ──
 -- of each call
@@ -87,8 +89,9 @@ LayoutUnseen =
 abbrev pub LayoutNeverSeen : Type 0
 LayoutNeverSeen =
     (a b : Layout) → Fills a → Fills b → (clock : Clock) (calls : List Call) (n m : Node) → SameSlots n m
-    → (answersIn a clock n calls ≡ answersIn b clock m calls) × SameSlots (afterIn a clock n calls) (afterIn b clock m calls)
+    → (answersBy (outcomeIn a clock) n calls ≡ answersBy (outcomeIn b clock) m calls)
+    × SameSlots (afterBy (outcomeIn a clock) n calls) (afterBy (outcomeIn b clock) m calls)
 
--- the slots of every node that calls make are settled
+-- the slots of every node that calls make are settled, so that this is said of all of them
 abbrev pub AlwaysSettled : Type 0
-AlwaysSettled = (put : Layout) → Fills put → (clock : Clock) (calls : List Call) → Settled (afterIn put clock fresh calls .slots)
+AlwaysSettled = (clock : Clock) (calls : List Call) → Settled (after clock calls .slots)

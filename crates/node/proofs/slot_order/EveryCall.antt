@@ -18,8 +18,8 @@ use Rattle.node.specs.Tick.{tickSlot, dueSlots, recordsFrom, ticked, tic
 use Rattle.node.specs.Request.{requested, requestRefusals, request}
 use Rattle.node.specs.NextFrame.{pendingIds, givenOut, give, nextFrame}
 use Rattle.node.specs.Selection.{lowestOrAbove}
-use Rattle.node.specs.Calls.{Call, outcome}
-use Rattle.node.specs.SlotOrder.{Settled, SameSlots, SameOutcome, Layout, firstFree, Fills, setUpIn, outcomeIn}
+use Rattle.node.specs.Calls.{Call, outcome, afterFrom, Answer, answerOf, answersFrom}
+use Rattle.node.specs.SlotOrder.{Settled, SameSlots, SameOutcome, Layout, firstFree, Fills, setUpIn, outcomeIn, afterBy, answersBy}
 use Rattle.node.specs.SlotOrder.{OrderUnseen, OrderNeverSeen, LayoutUnseen, LayoutNeverSeen, AlwaysSettled}
 use Rattle.node.proofs.Cases.{Passes}
 use Rattle.node.proofs.set_up.Cases.{SetUpFacts, set-up-facts}
@@ -140,24 +140,21 @@ layout-unseen a b fills-a fills-b clock c n m same =
     (ap (λ (i : ℕ). record { slots = m .slots; counter = i }) (same .counter))
     (each-call n (same .settled) (m .slots) (same .slots) a b fills-a fills-b clock c)
 
+-- ── every history ──
+-- what each call keeps between two nodes is kept by every history, if the calls answer alike
+pub in-every-history : (f g : Call → Node → Outcome) (R : Node → Node → Type 0)
+    → ((c : Call) (n m : Node) → R n m → (answerOf (f c n) ≡ answerOf (g c m)) × R (f c n .node) (g c m .node))
+    → (calls : List Call) (n m : Node) → R n m → (answersBy f n calls ≡ answersBy g m calls) × R (afterBy f n calls) (afterBy g m calls)
+in-every-history f g R step [] n m r = (refl, r)
+in-every-history f g R step (c ∷ cs) n m r =
+    let here = step c n m r in
+    let rest = in-every-history f g R step cs (f c n .node) (g c m .node) (here .1) in
+    (rw (here .0, rest .0), rest .1)
+
 pub layout-never-seen : LayoutNeverSeen
-layout-never-seen a b fills-a fills-b clock [] n m same = (refl, same)
-layout-never-seen a b fills-a fills-b clock (c ∷ cs) n m same =
-    let here = layout-unseen a b fills-a fills-b clock c n m same in
-    let rest = layout-never-seen a b fills-a fills-b clock cs (outcomeIn a clock c n .node) (outcomeIn b clock c m .node) (here .node) in
-    (rw (here .answer, rest .0), rest .1)
-
--- ── from the fresh node ──
-pub same-fresh : SameSlots fresh fresh
-same-fresh =
-    record {
-      settled = record { distinct = distinct-fresh slotCount; free = all-replicate EmptyIfFree slotCount empty (λ free. refl) };
-      slots = Permᴰ·refl (fresh .slots);
-      counter = refl;
-    }
-
-pub always-settled : AlwaysSettled
-always-settled put fills clock calls = layout-never-seen put put fills fills clock calls fresh fresh same-fresh .1 .settled
+layout-never-seen a b fills-a fills-b clock =
+    in-every-history (outcomeIn a clock) (outcomeIn b clock) SameSlots
+    (λ c n m same. let o = layout-unseen a b fills-a fills-b clock c n m same in (o .answer, o .node))
 
 -- ── the first free place ──
 pub first-free-fills : Fills firstFree
@@ -176,9 +173,30 @@ order-unseen clock c n m same =
     rw (← (in-first-free clock c n), ← (in-first-free clock c m))
     (layout-unseen firstFree firstFree first-free-fills first-free-fills clock c n m same)
 
+-- the histories of calls as they are
+module _ (clock : Clock) where
+  pub as-answers : (calls : List Call) (n : Node) → answersBy (outcome clock) n calls ≡ answersFrom clock n calls
+  as-answers [] n = refl
+  as-answers (c ∷ cs) n = ap (λ (l : List Answer). answerOf (outcome clock c n) ∷ l) (as-answers cs (outcome clock c n .node))
+
+  pub as-after : (calls : List Call) (n : Node) → afterBy (outcome clock) n calls ≡ afterFrom clock n calls
+  as-after [] n = refl
+  as-after (c ∷ cs) n = as-after cs (outcome clock c n .node)
+
 pub order-never-seen : OrderNeverSeen
-order-never-seen clock [] n m same = (refl, same)
-order-never-seen clock (c ∷ cs) n m same =
-    let here = order-unseen clock c n m same in
-    let rest = order-never-seen clock cs (outcome clock c n .node) (outcome clock c m .node) (here .node) in
-    (rw (here .answer, rest .0), rest .1)
+order-never-seen clock calls n m same =
+    rw (← (as-answers clock calls n), ← (as-answers clock calls m), ← (as-after clock calls n), ← (as-after clock calls m))
+    (in-every-history (outcome clock) (outcome clock) SameSlots
+    (λ c n m same. let o = order-unseen clock c n m same in (o .answer, o .node)) calls n m same)
+
+-- ── from the fresh node ──
+pub same-fresh : SameSlots fresh fresh
+same-fresh =
+    record {
+      settled = record { distinct = distinct-fresh slotCount; free = all-replicate EmptyIfFree slotCount empty (λ free. refl) };
+      slots = Permᴰ·refl (fresh .slots);
+      counter = refl;
+    }
+
+pub always-settled : AlwaysSettled
+always-settled clock calls = order-never-seen clock calls fresh fresh same-fresh .1 .settled
