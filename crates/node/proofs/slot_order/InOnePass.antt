@@ -19,7 +19,7 @@ use Rattle.node.specs.StreamOrder.{After, InOrder, recordsInOrder, tickI
 use Rattle.node.proofs.Choices.{contrary}
 use Rattle.node.proofs.tick.Tests.{due-tells}
 use Rattle.node.proofs.tick.Ascending.{Before, all-place}
-use Rattle.node.proofs.tick.DueOrder.{placed-before}
+use Rattle.node.proofs.tick.Placed.{placed-before}
 use Rattle.node.proofs.next_frame.Lowest.{lowest-at-most, lowest-append, none-lower, lowest-is-one, pending-from-slot, by-lowest, next-by-lowest}
 
 -- ── the tick ──

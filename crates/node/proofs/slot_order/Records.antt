@@ -14,7 +14,7 @@ use Rattle.node.specs.NextFrame.{pendingIn, pendingIds}
 use Rattle.node.specs.Selection.{lowestOrAbove}
 use Rattle.node.proofs.Choices.{neither}
 use Rattle.node.proofs.tick.Tests.{due-tells}
-use Rattle.node.proofs.tick.DueOrder.{Compared, below, equal, above, compared, placed-before, placed-instead, placed-after}
+use Rattle.node.proofs.tick.Placed.{Compared, below, equal, above, compared, placed-before, placed-instead, placed-after}
 use Rattle.node.proofs.next_frame.Lowest.{lowest-append}
 use Rattle.node.proofs.slot_order.Settled.{distinct-reordered}
 
