@@ -68,8 +68,9 @@ static inline size_t write_record(uint8_t *out, uint32_t stream, const uint8_t *
 static inline bool bad_frame(uint32_t id, uint8_t dlc, size_t len)
 {
     uint32_t code = id % 4;
+    size_t bytes = dlc > 8 ? 8 : dlc;
 
-    return id > MAX_BUS_ID || dlc > 8 || len != dlc || ((code == CODE_CONFIRMATION || code == CODE_ABORT) && dlc != 0);
+    return id > MAX_BUS_ID || dlc > 15 || len != bytes || ((code == CODE_CONFIRMATION || code == CODE_ABORT) && dlc != 0);
 }
 
 static inline void hold(struct message *m, uint16_t counter, const uint8_t *payload, size_t len)

@@ -96,7 +96,7 @@ static struct asked frame(uint32_t random)
     return (struct asked){
         .number = (stream_of(k) + (kind == 2)) * 4 + code,
         .dlc = dlc,
-        .len = dlc == 9 ? 9 : len,
+        .len = len,
         .first = (uint8_t)(other / 7),
         .room = kind == 0 ? 15 : 512,
     };

@@ -77,8 +77,9 @@ int main(void)
         const struct seen seen = look(turn);
         uint8_t out[512];
         if (seen.received || seen.elapsed) {
+            const size_t bytes = seen.dlc < KOSMYDORE_MAX_PAYLOAD ? seen.dlc : KOSMYDORE_MAX_PAYLOAD;
             struct kosmydore_delivered heard = seen.received
-                ? kosmydore_hear(node, seen.id, seen.dlc, seen.bytes, seen.dlc, out, sizeof out)
+                ? kosmydore_hear(node, seen.id, seen.dlc, seen.bytes, bytes, out, sizeof out)
                 : kosmydore_tick(node, out, sizeof out);
             after(&heard.node, heard.reply);
             deliver(out, heard.written);

@@ -18,9 +18,9 @@
 #define KOSMYDORE_H
 
 /* The version, as the file VERSION and `./kosmydore --version` have it. */
-#define KOSMYDORE_VERSION "4.1.0"
+#define KOSMYDORE_VERSION "4.2.0"
 #define KOSMYDORE_VERSION_MAJOR 4
-#define KOSMYDORE_VERSION_MINOR 1
+#define KOSMYDORE_VERSION_MINOR 2
 #define KOSMYDORE_VERSION_PATCH 0
 
 #include <stdbool.h>
@@ -68,10 +68,11 @@ extern "C" {
 #define KOSMYDORE_CODE_ABORT UINT32_C(2)
 #define KOSMYDORE_CODE_PLAIN UINT32_C(3)
 
-/* The highest stream number, bus identifier, code and payload length. */
+/* The highest stream number, bus identifier, code, DLC and payload length. */
 #define KOSMYDORE_MAX_STREAM UINT32_C(134217727)
 #define KOSMYDORE_MAX_BUS_ID UINT32_C(536870911)
 #define KOSMYDORE_MAX_CODE UINT32_C(3)
+#define KOSMYDORE_MAX_DLC UINT32_C(15)
 #define KOSMYDORE_MAX_PAYLOAD UINT32_C(8)
 
 /* The slots of a node, and the bytes that it takes. */
@@ -211,6 +212,10 @@ struct kosmydore_answered kosmydore_set_up(struct kosmydore_node node, uint32_t 
  * Takes in a frame that the controller received; the output holds KOSMYDORE_HEAR_OUTPUT bytes or
  * more. A payload or an output is the address of its first byte and its length; the two do not
  * overlap. An address is not null, also where the length is 0.
+ *
+ * The DLC is the one on the bus, at most KOSMYDORE_MAX_DLC, and the payload has the bytes that it
+ * means: as many as it says up to 8, and 8 from 9 to 15. Anything else is answered by
+ * KOSMYDORE_BAD_FRAME, and so is a confirmation or an abort whose DLC is not 0.
  */
 struct kosmydore_delivered kosmydore_hear(struct kosmydore_node node, uint32_t id, uint8_t dlc,
                                           const uint8_t *payload, size_t payload_length,

@@ -46,6 +46,8 @@ pub struct CallCounts {
     /// Set ups taken, class by role.
     pub taken: [[u64; 2]; 3],
     pub nodes: u64,
+    /// Frames heard with a DLC of 9 to 16, each with eight bytes and with nine.
+    pub high_dlcs: [[u64; 2]; 8],
     pub deliveries: u64,
     pub aborts: u64,
     pub unreadable: u64,
@@ -60,7 +62,14 @@ impl CallCounts {
         }
     }
 
-    /// The replies that could occur and did not.
+    pub fn heard(&mut self, dlc: u8, bytes: usize) {
+        let count = usize::from(dlc).checked_sub(9).and_then(|row| self.high_dlcs.get_mut(row));
+        if let (Some(row), 8 | 9) = (count, bytes) {
+            row[bytes - 8] += 1;
+        }
+    }
+
+    /// What could occur and did not.
     pub fn missing(&self) -> Vec<String> {
         let mut missing = Vec::new();
         for call in Call::ALL {
@@ -74,6 +83,13 @@ impl CallCounts {
             for (role, count) in row.iter().enumerate() {
                 if *count == 0 {
                     missing.push(format!("class {class} was never set up with role {role}"));
+                }
+            }
+        }
+        for (dlc, row) in (9..).zip(&self.high_dlcs) {
+            for (bytes, count) in (8..).zip(row) {
+                if *count == 0 {
+                    missing.push(format!("DLC {dlc} was never heard with {bytes} bytes"));
                 }
             }
         }
@@ -100,6 +116,10 @@ impl fmt::Display for CallCounts {
             write!(f, " {name} {}, {};", row[0], row[1])?;
         }
         writeln!(f)?;
+        for (at, bytes) in ["eight", "nine"].iter().enumerate() {
+            let counts: Vec<String> = self.high_dlcs.iter().map(|row| row[at].to_string()).collect();
+            writeln!(f, "  DLC 9 to 16 with {bytes} bytes: {}", counts.join(", "))?;
+        }
         for call in Call::ALL {
             write!(f, "  {:<10}", call.name())?;
             for reply in Reply::ALL {

@@ -184,6 +184,7 @@ impl Calls {
         let mut lent = vec![FILL; output];
         let heard = self.node.hear(id, dlc, payload, &mut lent);
         self.count(Call::Hear, heard.reply);
+        self.seen.heard(dlc, payload.len());
         match heard.did {
             Did::DeliveredAtOnce => self.seen.deliveries += 1,
             Did::AbortPending => self.seen.aborts += 1,

@@ -47,7 +47,10 @@ faults! {
     DropsSilently, "drops-silently", "an unconfirmed message is dropped with no abort pending";
     ClashByLength, "clash-by-length", "only the lengths are compared for a Clash";
     ClashByBytes, "clash-by-bytes", "only the bytes that both have are compared for a Clash";
+    HeldLengthIsDlc, "held-length-is-dlc", "the held length is the DLC, 15 where that is 15";
     ClashReplaces, "clash-replaces", "a Clash replaces what is held";
+    DlcAboveEight, "dlc-above-eight", "DLC 9 to 15 are refused";
+    NineBytes, "nine-bytes", "DLC 9 with nine bytes is taken";
     SendSlotHears, "send-slot-hears", "a frame of a send slot is answered 0";
     TickDeliversOne, "tick-delivers-one", "a tick delivers one message at most";
     // Frames given out.

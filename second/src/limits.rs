@@ -57,7 +57,8 @@ limits! {
     TwoDdOver, 1, "2m-dd-least", "2M: dd at least dc and Ra and";
     TwoDdMost, 16_000, "2m-dd-most", "2M: dd at most";
     IdentMost, 536_870_911, "ident-most", "a bus identifier at most";
-    DlcMost, 8, "dlc-most", "a DLC at most";
+    DlcMost, 15, "dlc-most", "a DLC at most";
+    DlcBytes, 8, "dlc-bytes", "bytes that a DLC means at most";
     RequestMost, 8, "request-most", "a request's payload at most";
     HearOutput, 16, "hear-output", "hear's output at least";
     TickOutput, 512, "tick-output", "tick's output at least";

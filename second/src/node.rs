@@ -190,6 +190,9 @@ impl Node {
         }
         let done = |did| Heard { reply: Reply::Done, written: 0, did };
         match code {
+            Code::Data if fault == Fault::HeldLengthIsDlc => {
+                answered(receiver.hear_data(&as_long_as(dlc, payload), clock))
+            }
             Code::Data => answered(receiver.hear_data(payload, clock)),
             Code::Confirmation => done(receiver.hear_confirmation(clock)),
             Code::Abort => done(receiver.hear_abort(fault)),
@@ -213,7 +216,7 @@ impl Node {
         let (stream, code) = split_by(self.fault, BusId(id))?;
         let unwanted = matches!(code, Code::Confirmation | Code::Abort) && dlc != 0;
         if self.above(usize::from(dlc), Limit::DlcMost)
-            || payload.len() != usize::from(dlc)
+            || !self.means(dlc, payload.len())
             || unwanted
             || self.fault == Fault::RefusesFrames
         {
@@ -223,6 +226,15 @@ impl Node {
             return Err(Reply::ShortOutput);
         }
         Ok((stream, code))
+    }
+
+    /// Whether a DLC means so many bytes. ISO 11898-1 reads every DLC from 9 to 15 as eight.
+    fn means(&self, dlc: u8, bytes: usize) -> bool {
+        match self.fault {
+            Fault::DlcAboveEight if dlc > 8 => false,
+            Fault::NineBytes if dlc == 9 && bytes == 9 => true,
+            fault => i64::try_from(bytes) == Ok(i64::from(dlc).min(Limit::DlcBytes.of(fault))),
+        }
     }
 
     /// Moves the count, then drops, delivers and ends holds, by ascending stream.
@@ -338,4 +350,11 @@ impl Node {
         }
         self.parts.keys().find_map(pending)
     }
+}
+
+/// What a mutant takes for the payload: as many bytes as the DLC's number says, the last ones zeros.
+fn as_long_as(dlc: u8, payload: &[u8]) -> Vec<u8> {
+    let mut long = payload.to_vec();
+    long.resize(usize::from(dlc), 0);
+    long
 }

@@ -137,7 +137,7 @@ impl Maker<'_> {
             return;
         }
         let mut payloads = Vec::new();
-        let longest = self.random.from(0, 8) as usize;
+        let longest = if self.random.percent(30) { 8 } else { self.random.from(0, 8) as usize };
         payloads.push(self.random.bytes(longest));
         // The same length with other bytes, and the same bytes with another length.
         let mut other = payloads[0].clone();
@@ -211,11 +211,13 @@ impl Maker<'_> {
             1 | 2 if !self.random.percent(4) => Vec::new(),
             _ => self.payload(known),
         };
-        let dlc = match self.random.below(60) {
-            0 => payload.len() as u64 + 1,
-            1 => (payload.len() as u64).saturating_sub(1),
-            2 => self.random.pick(&[8, 9, 15, 16, 255]),
-            _ => payload.len() as u64,
+        let dlc = match (self.random.below(60), payload.len() as u64) {
+            (0, length) => length + 1,
+            (1, length) => length.saturating_sub(1),
+            (2, _) => self.random.pick(&[8, 9, 15, 16, 255]),
+            // DLC 9 to 15 mean eight bytes, and not nine; 16 means nothing.
+            (3..=29, 8 | 9) => self.random.from(9, 16),
+            (_, length) => length,
         };
         let output = self.output(16);
         format!("hear {id} {dlc} {} {output}", hex(&payload))

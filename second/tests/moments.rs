@@ -126,10 +126,9 @@ fn moment_8() {
 
 #[test]
 fn moment_9() {
-    let mut node = receiver();
-    assert_eq!(node.hear(DATA, 9, &[0; 9], &mut [0; 16]).reply, Reply::BadFrame);
-    assert_eq!(node.hear(DATA, 9, &[0; 8], &mut [0; 16]).reply, Reply::BadFrame);
-    assert_eq!(node.hear(DATA, 8, &[0; 8], &mut [0; 16]).reply, Reply::Done);
+    for dlc in [8, 9] {
+        assert_eq!(receiver().hear(DATA, dlc, &[0; 8], &mut [0; 16]).reply, Reply::Done);
+    }
 }
 
 // Moment 10 is in the tests of the bench rules.

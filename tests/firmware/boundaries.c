@@ -202,6 +202,52 @@ static void node(void)
     SAME(kosmydore_set_up(set.node, stream, settings).reply, KOSMYDORE_TABLE_FULL);
 }
 
+/* A frame with this DLC and so many bytes, as a node answers it that receives stream 5 as two-message. */
+static uint32_t heard(struct kosmydore_node receiver, uint32_t id, uint8_t dlc, size_t bytes)
+{
+    const uint8_t payload[16] = {1, 2, 3, 4, 5, 6, 7, 8, 9};
+    uint8_t output[KOSMYDORE_HEAR_OUTPUT];
+
+    return kosmydore_hear(receiver, id, dlc, payload, bytes, output, sizeof output).reply;
+}
+
+/* DLC 9 to 15 mean eight bytes, also in what is held, and are duplicates of each other and of DLC 8. */
+static void dlcs(void)
+{
+    const uint8_t payload[8] = {1, 2, 3, 4, 5, 6, 7, 8};
+    uint8_t output[KOSMYDORE_HEAR_OUTPUT];
+    struct kosmydore_settings settings;
+    struct kosmydore_node receiver;
+    struct kosmydore_delivered first;
+    uint8_t dlc, other;
+
+    settings.role = KOSMYDORE_RECEIVE;
+    settings.class_ = KOSMYDORE_TWO_MESSAGE;
+    settings.data_reach = 2;
+    settings.confirm_delay = 3;
+    settings.abort_reach = 2;
+    settings.deliver_delay = 6;
+    receiver = kosmydore_set_up(kosmydore_fresh(), 5, settings).node;
+    for (dlc = 8; dlc <= KOSMYDORE_MAX_DLC; dlc++) {
+        first = kosmydore_hear(receiver, 20, dlc, payload, KOSMYDORE_MAX_PAYLOAD, output, sizeof output);
+        SAME(first.reply, KOSMYDORE_DONE);
+        SAME(first.node.slots[0].message.length, KOSMYDORE_MAX_PAYLOAD);
+        for (other = 8; other <= KOSMYDORE_MAX_DLC; other++)
+            SAME(heard(first.node, 20, other, KOSMYDORE_MAX_PAYLOAD), KOSMYDORE_DONE);
+        SAME(heard(first.node, 20, 7, 7), KOSMYDORE_CLASH);
+        SAME(heard(receiver, 20, dlc, 7), KOSMYDORE_BAD_FRAME);
+        SAME(heard(receiver, 20, dlc, 9), KOSMYDORE_BAD_FRAME);
+        SAME(heard(receiver, 21, dlc, KOSMYDORE_MAX_PAYLOAD), KOSMYDORE_BAD_FRAME);
+        SAME(heard(receiver, 22, dlc, KOSMYDORE_MAX_PAYLOAD), KOSMYDORE_BAD_FRAME);
+    }
+    SAME(heard(receiver, 20, KOSMYDORE_MAX_DLC, KOSMYDORE_MAX_DLC), KOSMYDORE_BAD_FRAME);
+    SAME(heard(receiver, 20, KOSMYDORE_MAX_DLC + 1, KOSMYDORE_MAX_PAYLOAD), KOSMYDORE_BAD_FRAME);
+    SAME(heard(receiver, 20, KOSMYDORE_MAX_DLC + 1, KOSMYDORE_MAX_DLC + 1), KOSMYDORE_BAD_FRAME);
+    SAME(heard(receiver, 20, 255, KOSMYDORE_MAX_PAYLOAD), KOSMYDORE_BAD_FRAME);
+    SAME(heard(receiver, 20, 7, KOSMYDORE_MAX_PAYLOAD), KOSMYDORE_BAD_FRAME);
+    SAME(heard(receiver, 20, 7, 7), KOSMYDORE_DONE);
+}
+
 int main(void)
 {
     identifiers();
@@ -211,6 +257,7 @@ int main(void)
     two_message();
     record_length();
     node();
+    dlcs();
     printf("%d passed, %d failed\n", passed, failed);
     return failed == 0 ? 0 : 1;
 }

@@ -17,7 +17,7 @@ pub struct Asked {
 
 const ROOM: usize = Node::TICK_ROOM;
 
-// The longest payload that is asked for, one byte more than a frame has.
+// The longest payload that is asked for, one byte more than a message has.
 pub(crate) const LARGEST: usize = 9;
 
 pub(crate) fn stream_of(k: u32) -> u32
@@ -81,8 +81,9 @@ fn wide(len: u8) -> usize {
     len as usize
 }
 
-// A frame: one in sixteen each with short output, a DLC that is one too high, an unknown stream and
-// any code; one in eight each with another first byte and with a byte less.
+// A frame: one in sixteen each with short output, a DLC that is one more than its bytes (no frame, but
+// where these are eight), an unknown stream and any code; one in eight each with another first byte and
+// with a byte less.
 pub(crate) fn frame(random: u32) -> Asked {
     let h = random / 65536;
     let k = h % 32;
@@ -95,7 +96,7 @@ pub(crate) fn frame(random: u32) -> Asked {
     Asked {
         number: (stream_of(k) + flag(kind == 2)) * 4 + code,
         dlc,
-        len: if dlc == 9 { LARGEST } else { wide(len) },
+        len: wide(len),
         first: (other / 7) as u8,
         room: if kind == 0 { Node::HEAR_ROOM - 1 } else { ROOM },
         settings: settings_of(0, 0),

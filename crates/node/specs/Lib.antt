@@ -2,6 +2,7 @@ pub mod Slots
 pub mod Nodes
 pub mod SetUp
 pub mod Hear
+pub mod EqualDlcs
 pub mod Clock
 pub mod Tick
 pub mod Request

@@ -35,8 +35,8 @@ settings role dd = ofTwoMessage role 2 3 2 dd
 abbrev pub data₅ : Call
 data₅ = Call.hear (record { 0 = 20 }) 2 (10 ∷ 11 ∷ []) (replicate hearRoom 0)
 
-abbrev pub data-of-length : ℕ → Call
-data-of-length n = Call.hear (record { 0 = 20 }) n (replicate n 10) (replicate hearRoom 0)
+abbrev pub eight-bytes : (dlc : ℕ) → Call
+eight-bytes dlc = Call.hear (record { 0 = 20 }) dlc (replicate 8 10) (replicate hearRoom 0)
 
 abbrev pub confirmation₅ : Call
 confirmation₅ = Call.hear (record { 0 = 21 }) 0 [] (replicate hearRoom 0)
@@ -128,9 +128,9 @@ moments =
     (splits 536870911 ⇒ parts Done 134217727 3) ∷
     (splits 536870912 ⇒ parts BadFrame 0 0) ∷
     (call (receiving 10) [] (Call.hear (record { 0 = 536870912 }) 0 [] (replicate hearRoom 0)) ⇒ node BadFrame none [] 10 false false) ∷
-    -- 9: DLC 8 with 8 bytes is taken; DLC 9 is BadFrame.
-    (call (receiving 10) [] (data-of-length 8) ⇒ node Done none [] 10 true false) ∷
-    (call (receiving 10) [] (data-of-length 9) ⇒ node BadFrame none [] 10 false false) ∷
+    -- 9: DLC 8 with eight bytes is taken, and so is DLC 9 with eight bytes.
+    (call (receiving 10) [] (eight-bytes 8) ⇒ node Done none [] 10 true false) ∷
+    (call (receiving 10) [] (eight-bytes 9) ⇒ node Done none [] 10 true false) ∷
     []
 
 -- THE MOMENTS: the definitions show what the table says, with counts that roll over and with unbounded ones

@@ -9,3 +9,4 @@ pub mod Replies
 pub mod Unique
 pub mod Variants
 pub mod Walking
+pub mod WorkedFrames

@@ -4,6 +4,7 @@ pub mod Tells
 pub mod Identifiers
 pub mod Classes
 pub mod Frames
+pub mod WorkedFrames
 pub mod Settings
 pub mod Delivered
 pub mod Uniqueness

@@ -10,6 +10,11 @@ pub record Tells (b : Bool) (P : Type 0) : Type 0 where
   pub says : b ≡ true → P
   pub back : P → b ≡ true
 
+-- where the statement does not hold, the test is false
+pub untold : (b : Bool) {P : Type 0} → Tells b P → (P → ⊥) → b ≡ false
+untold true t no-way = absurd (no-way (t .says refl))
+untold false t no-way = refl
+
 pub at-most : (a b : ℕ) → Tells (leb a b) (a ≤ b)
 at-most a b = record { says = leb-true a b; back = le-leb a b }
 

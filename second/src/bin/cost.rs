@@ -92,7 +92,7 @@ fn frame(random: u32) -> Asked {
     Asked {
         number: (stream(k) + u32::from(kind == 2)) * 4 + code,
         dlc,
-        len: if dlc == 9 { 9 } else { usize::from(len) },
+        len: usize::from(len),
         first: (other / 7) as u8,
         room: if kind == 0 { 15 } else { TICK_OUTPUT },
         ..NOTHING

@@ -2,18 +2,18 @@
 use Prim.Native.Nat.{ℕ, _+_, _-_, _≤_}
 use native.Mathlib.Omega.{arith}
 use mathlib.Core.Path.{_≡_, refl, ap, sym, subst, _∙_}
+use mathlib.Core.Logic.{⊎-elim}
 use mathlib.Core.Bool.{Bool, true, false, not, _&&_, _||_, cond, true≢false}
 use mathlib.Core.List.{List, [], _∷_, map}
 use lib.ListN.{length}
-use lib.Dec.{T, ltb, eqb, eqb-refl, eqb→eq, ltb→lt}
-use native.Mathlib.Decide.{decLe}
+use lib.Dec.{T, eqb, eqb→eq}
 use Rattle.wire.specs.declared.ids.Stream.{Stream}
 use Rattle.wire.specs.declared.settings.Settings.{Settings}
 use Rattle.node.specs.declared.slots.Slot.{Slot}
 use Rattle.node.specs.declared.Node.{Node}
 use Rattle.wire.specs.Classes.{carries}
-use Rattle.wire.specs.Frames.{maxPayload, unwantedPayload, badFrame}
-use Rattle.wire.specs.Identifiers.{idOf, streamOf, codeOf, maxStream, maxBusId}
+use Rattle.wire.specs.Frames.{maxPayload, badFrame}
+use Rattle.wire.specs.Identifiers.{idOf, streamOf, codeOf, maxStream}
 use Rattle.wire.specs.Settings.{receives, isPlain}
 use Rattle.node.specs.Clock.{unbounded}
 use Rattle.node.specs.Hear.{clashes, heardBy}
@@ -22,6 +22,7 @@ use Rattle.node.specs.Nodes.{slotOf}
 use Rattle.node.specs.Reachable.{Kept}
 use Rattle.node.specs.Slots.{isReceiver}
 use Rattle.node.specs.Tick.{holdOver, lapsed, tickSlot}
+use Rattle.wire.proofs.Frames.{own-frame}
 use Rattle.node.proofs.slots.Streams.{Kind, kindOf}
 use Rattle.one_stream.proofs.Truth.{is-true, is-false, so, not-so}
 use Rattle.bench.specs.Bench.{Module, Frame, Delivery}
@@ -125,30 +126,8 @@ code-id s c h = omega arith
 -- data of at most eight bytes, or an empty frame
 pub good-frame : (s : Stream) (c : ℕ) (b : List ℕ) → s .0 ≤ maxStream → c ≤ 2 → length b ≤ maxPayload → (1 ≤ c → length b ≡ 0)
     → badFrame (idOf s c) (length b) (length b) ≡ false
-unfolding badFrame
-good-frame s c b small code short bare = rw (low, few, equal, plain) refl
-  where
-    low : ltb maxBusId (idOf s c .0) ≡ false
-    low = is-false (ltb maxBusId (idOf s c .0)) (λ t. let h = ltb→lt maxBusId (idOf s c .0) t in omega arith)
-
-    few : ltb maxPayload (length b) ≡ false
-    few = is-false (ltb maxPayload (length b)) (λ t. let h = ltb→lt maxPayload (length b) t in omega arith)
-
-    equal : eqb (length b) (length b) ≡ true
-    equal = is-true (eqb (length b) (length b)) (eqb-refl (length b))
-
-    plain : unwantedPayload (idOf s c) (length b) ≡ false
-    plain = go (decLe 1 c)
-      where
-        go : Dec (1 ≤ c) → unwantedPayload (idOf s c) (length b) ≡ false
-        go (yes h) = rw (bare h) (none (eqb (codeOf (idOf s c)) 1 || eqb (codeOf (idOf s c)) 2))
-          where
-            none : (t : Bool) → (t && false) ≡ false
-            none true = refl
-            none false = refl
-        go (no h) =
-            let is-data : codeOf (idOf s c) ≡ 0 = omega arith in
-            rw is-data refl
+good-frame s c b small code short bare =
+    own-frame (idOf s c) (length b) (omega arith) short (⊎-elim (λ e. bare (omega arith)) (λ e. bare (omega arith)))
 
 -- ── the node of a module ──
 module _ {n : ℕ} {D : OS.Delays} (K : ClassOnBench n D) (s : Stream) (node : Node) (k : Kept node)
