@@ -5,6 +5,7 @@ pub mod kept
 pub mod demand1
 pub mod rollover
 pub mod listing
+pub mod slot_order
 pub mod Moments
 pub mod EarlierErrors
 pub mod Unique

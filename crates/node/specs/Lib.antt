@@ -14,3 +14,5 @@ pub mod Refused
 pub mod Listing
 pub mod SameAsListing
 pub mod Selection
+pub mod SlotOrder
+pub mod StreamOrder

@@ -228,17 +228,21 @@ lowest-same [] small some = absurd (contrary refl some)
 lowest-same (i ∷ []) small some = omega (arith, small i (List·Memᴰ·head refl))
 lowest-same (i ∷ j ∷ is) small some = ap (min i) (lowest-same (j ∷ is) (λ k m. small k (List·Memᴰ·tail m)) refl)
 
+-- these being pending
+pub by-lowest : (output : List ℕ) (n : Node) (ids : List ℕ) → ((i : ℕ) → List·Memᴰ i ids → i ≤ maxBusId)
+    → let low = lowestOrAbove ids in
+    unlessRefused n (nextRefusals output ids) (give (record { 0 = lowest ids }) n)
+    ≡ unlessRefused n (refusalsByLowest output low) (give (record { 0 = low }) n)
+by-lowest output n ids small = go (isNone ids) refl
+  where
+    go : (t : Bool) → isNone ids ≡ t
+        → unlessRefused n (nextRefusals output ids) (give (record { 0 = lowest ids }) n)
+        ≡ unlessRefused n (refusalsByLowest output (lowestOrAbove ids)) (give (record { 0 = lowestOrAbove ids }) n)
+    go true e = rw (← (none-same ids small), e)
+    go false e = rw (← (none-same ids small), e, lowest-same ids small e)
+
 pub next-by-lowest : (output : List ℕ) (n : Node)
     → let low = lowestOrAbove (pendingIds (n .slots)) in
     nextFrame output n ≡ unlessRefused n (refusalsByLowest output low) (give (record { 0 = low }) n)
 unfolding nextFrame
-next-by-lowest output n = go (isNone (pendingIds (n .slots))) refl
-  where
-    small : (i : ℕ) → List·Memᴰ i (pendingIds (n .slots)) → i ≤ maxBusId
-    small i m = pending-in-range (n .slots) m
-
-    go : (t : Bool) → isNone (pendingIds (n .slots)) ≡ t
-        → unlessRefused n (nextRefusals output (pendingIds (n .slots))) (give (record { 0 = lowest (pendingIds (n .slots)) }) n)
-        ≡ unlessRefused n (refusalsByLowest output (lowestOrAbove (pendingIds (n .slots)))) (give (record { 0 = lowestOrAbove (pendingIds (n .slots)) }) n)
-    go true e = rw (← (none-same (pendingIds (n .slots)) small), e)
-    go false e = rw (← (none-same (pendingIds (n .slots)) small), e, lowest-same (pendingIds (n .slots)) small e)
+next-by-lowest output n = by-lowest output n (pendingIds (n .slots)) (λ i m. pending-in-range (n .slots) m)

@@ -24,7 +24,7 @@ abbrev pub Ascends : List Slot → Type 0
 Ascends [] = Unit {0}
 Ascends (x ∷ xs) = All (Before x) xs × Ascends xs
 
-all-place : (P : Slot → Type 0) (x : Slot) → P x → (ys : List Slot) → All P ys → All P (place x ys)
+pub all-place : (P : Slot → Type 0) (x : Slot) → P x → (ys : List Slot) → All P ys → All P (place x ys)
 all-place P x p [] ps = (p, tt)
 all-place P x p (y ∷ ys) ps = by-order (ltb (y .stream .0) (x .stream .0)) (eqb (x .stream .0) (y .stream .0)) (all-place P x p ys (ps .1))
   where

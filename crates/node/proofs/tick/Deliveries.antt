@@ -24,7 +24,7 @@ use Rattle.node.specs.Calls.{Call, outcome, after}
 use Rattle.node.specs.Reachable.{Distinct}
 use Rattle.node.proofs.Choices.{neither}
 use Rattle.node.proofs.tick.Tests.{due-tells}
-use Rattle.node.proofs.tick.DueOrder.{Compared, below, equal, above, compared, placed-before, placed-instead, placed-after}
+use Rattle.node.proofs.tick.Placed.{Compared, below, equal, above, compared, placed-before, placed-instead, placed-after}
 
 -- ── a slot that was placed ──
 in-placed : (x : Slot) (l : List Slot) → List·Memᴰ x (place x l)
@@ -116,23 +116,23 @@ module _ (clock : Clock) (now : ℕ) where
   delivered-from-table xs z i = due-if-delivered xs z i .0
 
 -- ── not in slot order ──
-abbrev imd : Settings
+abbrev pub imd : Settings
 imd = ofImd 0 1 1
 
-abbrev nine : Stream
+abbrev pub nine : Stream
 nine = record { 0 = 9 }
 
-abbrev five : Stream
+abbrev pub five : Stream
 five = record { 0 = 5 }
 
-abbrev data-for : Stream → (byte : ℕ) → Call
+abbrev pub data-for : Stream → (byte : ℕ) → Call
 data-for s byte = Call.hear (record { 0 = s .0 * 4 }) 1 (byte ∷ []) (replicate hearRoom 0)
 
-abbrev one-tick : Call
+abbrev pub one-tick : Call
 one-tick = Call.tick (replicate tickRoom 0)
 
 -- stream 9 has the first slot, and stream 5 the second; each holds data, and both are due at the second tick
-abbrev history : List Call
+abbrev pub history : List Call
 history = Call.setUp nine imd ∷ Call.setUp five imd ∷ data-for nine 7 ∷ data-for five 8 ∷ one-tick ∷ []
 
 abbrev delivered-then : List ℕ

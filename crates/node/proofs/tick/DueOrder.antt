@@ -1,46 +1,22 @@
--- The due slots by ascending stream: how a slot is placed among them, and that the place of the least key from a number on
--- is the place of the next slot that is due.
+-- The place of the least key from a number on is the place of the next slot that is due, by ascending stream.
 use mathlib.Core.Path.{_≡_, refl, sym, ap, _∙_}
 use mathlib.Core.Bool.{Bool, true, false, cond}
 use mathlib.Core.List.{List, [], _∷_, map}
 use mathlib.Core.Logic.{_⊎_, inl, inr}
 use Prim.Native.Nat.{ℕ, suc, _+_, _≤_, _<_}
 use native.Mathlib.Omega.{arith}
-use borrow.Author.Tests.{lt-ltb, le-ltb, le-leb, lt-leb, eq-eqb, ne-eqb, ltb-true, ltb-false}
+use borrow.Author.Tests.{le-leb, lt-leb}
 use lib.ListN.{length, getD}
-use lib.Dec.{ltb, leb}
+use lib.Dec.{leb}
 use Rattle.node.specs.declared.slots.Slot.{Slot}
 use Rattle.node.specs.Clock.{Clock}
 use Rattle.node.specs.Tick.{due, place, ageOf, dueSlots}
 use Rattle.node.specs.Selection.{keyOf, leastAt}
 use Rattle.node.specs.Reachable.{All}
+use Rattle.node.proofs.tick.Placed.{Compared, below, equal, above, compared, placed-before, placed-instead, placed-after}
 use Rattle.node.proofs.tick.Ascending.{Before, Ascends}
 use Rattle.node.proofs.tick.LeastKey.{low-key-is-not-before, high-key-is-not-before, key-is-before, only-key-is-before, least-is-here}
 use Rattle.node.proofs.tick.LeastKey.{least-is-later, at-most-or-above}
-
-pub data Compared (a b : ℕ) : Type 0 where
-  below : a < b → Compared a b
-  equal : a ≡ b → Compared a b
-  above : b < a → Compared a b
-
-pub compared : (a b : ℕ) → Compared a b
-compared a b = go (ltb b a) (ltb a b) refl refl
-  where
-    go : (t u : Bool) → ltb b a ≡ t → ltb a b ≡ u → Compared a b
-    go true u p q = above (ltb-true b a p)
-    go false true p q = below (ltb-true a b q)
-    go false false p q = let h = ltb-false b a p in let k = ltb-false a b q in equal (omega arith)
-
-module _ (x y : Slot) (ys : List Slot) where
-  pub placed-after : y .stream .0 < x .stream .0 → place x (y ∷ ys) ≡ y ∷ place x ys
-  placed-after h = rw (lt-ltb (y .stream .0) (x .stream .0) h)
-
-  pub placed-instead : x .stream .0 ≡ y .stream .0 → place x (y ∷ ys) ≡ x ∷ ys
-  placed-instead e = rw (le-ltb (y .stream .0) (x .stream .0) (omega arith), eq-eqb (x .stream .0) (y .stream .0) e)
-
-  pub placed-before : x .stream .0 < y .stream .0 → place x (y ∷ ys) ≡ x ∷ y ∷ ys
-  placed-before h =
-      rw (le-ltb (y .stream .0) (x .stream .0) (omega arith), ne-eqb (x .stream .0) (y .stream .0) (λ e. omega arith))
 
 place-lengthens : (x : Slot) (l : List Slot) → length (place x l) ≤ suc (length l)
 place-lengthens x [] = omega arith
