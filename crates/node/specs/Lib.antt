@@ -13,6 +13,6 @@ pub mod Moments
 pub mod Refused
 pub mod Listing
 pub mod SameAsListing
-pub mod Selection
+pub mod Stirring
+pub mod OldLayout
 pub mod SlotOrder
-pub mod StreamOrder

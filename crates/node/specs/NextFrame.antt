@@ -1,18 +1,19 @@
--- The next frame: of all pending frames the one with the lowest bus identifier. The replies ShortOutput, Nothing, in this order.
+-- The next frame: of the pending frames of the first slot that has any, the one with the lowest bus identifier; in every node that calls
+-- make, it is the lowest of all. The replies ShortOutput, Nothing, in this order.
 use Prim.Native.Nat.{ℕ, _+_, _*_, min}
-use mathlib.Core.Bool.{Bool, true, false, cond, _&&_, _||_}
+use mathlib.Core.Bool.{Bool, true, false, cond, not, _&&_, _||_}
 use mathlib.Core.List.{List, [], _∷_, _++_}
 use lib.ListN.{length}
 use lib.Dec.{eqb, leb, ltb}
 use Rattle.wire.specs.declared.ids.BusId.{BusId}
 use Rattle.wire.specs.declared.reply.Reply.the-variants.{Done, ShortOutput, Nothing}
-use Rattle.wire.specs.Identifiers.{maxStream, streamOf, codeOf}
+use Rattle.wire.specs.Identifiers.{maxStream, codeOf}
 use Rattle.wire.specs.Settings.{isPlain}
 use Rattle.node.specs.declared.slots.Pending.{Pending}
 use Rattle.node.specs.declared.slots.Slot.{Slot}
 use Rattle.node.specs.declared.Node.{Node}
-use Rattle.node.specs.Slots.{payloadOf, payloadGiven, confirmationGiven, abortGiven, withParts}
-use Rattle.node.specs.Nodes.{slotOf, onSlot, Outcome, Refusals, unlessRefused}
+use Rattle.node.specs.Slots.{payloadOf, payloadGiven, confirmationGiven, abortGiven, withParts, first, onFirst, some}
+use Rattle.node.specs.Nodes.{withSlots, Outcome, Refusals, unlessRefused}
 
 -- the longest payload must fit
 abbrev pub nextRoom : ℕ
@@ -38,11 +39,6 @@ idsFrom stream (code ∷ codes) = (stream * 4 + code) ∷ idsFrom stream codes
 unfoldable pub pendingIn : Slot → List ℕ
 pendingIn x = cond (x .used && leb (x .stream .0) maxStream) (idsFrom (x .stream .0) (pendingCodes x)) []
 
--- all pending frames, by their bus identifiers
-unfoldable pub pendingIds : List Slot → List ℕ
-pendingIds [] = []
-pendingIds (x ∷ xs) = pendingIn x ++ pendingIds xs
-
 -- there are none
 abbrev pub isNone : List ℕ → Bool
 isNone [] = true
@@ -65,23 +61,33 @@ givenOut code x = withParts x (x .message) (without code (x .pending))
 unfoldable pub payloadFor : (code : ℕ) → Slot → List ℕ
 payloadFor code x = cond (eqb code 1 || eqb code 2) [] (payloadOf (x .message))
 
-unfoldable pub give : BusId → Node → Outcome
-give id n =
+-- a frame of the slot is pending
+abbrev pub hasFrame : Slot → Bool
+hasFrame x = not (isNone (pendingIn x))
+
+-- the one that it gives out first
+abbrev pub lowestFrame : Slot → BusId
+lowestFrame x = record { 0 = lowest (pendingIn x) }
+
+abbrev pub lowestGiven : Slot → Slot
+lowestGiven x = givenOut (codeOf (lowestFrame x)) x
+
+-- the first slot with a frame pending gives it out
+unfoldable pub give : Node → Outcome
+give n =
+    let x = first hasFrame (n .slots) in
     record {
-      node = onSlot (streamOf id) (givenOut (codeOf id)) n;
+      node = withSlots (onFirst hasFrame lowestGiven (n .slots)) n;
       reply = Done;
-      id = id;
-      bytes = payloadFor (codeOf id) (slotOf (streamOf id) n);
+      id = lowestFrame x;
+      bytes = payloadFor (codeOf (lowestFrame x)) x;
     }
 
--- what refuses to give a frame out, these being pending
-abbrev pub nextRefusals : (output : List ℕ) → (pending : List ℕ) → Refusals
-nextRefusals output pending =
+abbrev pub nextRefusals : (output : List ℕ) → Node → Refusals
+nextRefusals output n =
     (ShortOutput, ltb (length output) nextRoom)
-    ∷ (Nothing, isNone pending)
+    ∷ (Nothing, not (some hasFrame (n .slots)))
     ∷ []
 
 unfoldable pub nextFrame : (output : List ℕ) → Node → Outcome
-nextFrame output n =
-    let pending = pendingIds (n .slots) in
-    unlessRefused n (nextRefusals output pending) (give (record { 0 = lowest pending }) n)
+nextFrame output n = unlessRefused n (nextRefusals output n) (give n)

@@ -1,5 +1,5 @@
 -- What every node keeps that calls made from the fresh one, ticks being counted without bound.
-use Prim.Native.Nat.{ℕ, _-_, _≤_}
+use Prim.Native.Nat.{ℕ, _-_, _≤_, _<_}
 use mathlib.Core.Path.{_≡_}
 use mathlib.Core.Bool.{true, false, cond, not, _&&_}
 use mathlib.Core.List.{List, [], _∷_}
@@ -11,7 +11,7 @@ use Rattle.node.specs.declared.slots.Message.{Message}
 use Rattle.node.specs.declared.slots.Pending.{Pending}
 use Rattle.node.specs.declared.slots.Slot.{Slot}
 use Rattle.node.specs.declared.Node.{Node}
-use Rattle.node.specs.Slots.{noMessage, padded, payloadOf, empty, isOf, some}
+use Rattle.node.specs.Slots.{noMessage, padded, payloadOf, empty}
 use Rattle.node.specs.Nodes.{slotCount}
 use Rattle.node.specs.Tick.{holdLength}
 
@@ -52,12 +52,16 @@ abbrev pub All : (Slot → Type 0) → List Slot → Type 0
 All P [] = Unit {0}
 All P (x ∷ xs) = P x × All P xs
 
--- the stream of a used slot is that of no later one
-abbrev pub Distinct : List Slot → Type 0
-Distinct [] = Unit {0}
-Distinct (x ∷ xs) = (x .used ≡ true → some (isOf (x .stream)) xs ≡ false) × Distinct xs
+-- y may stand after x: if it is in use then so is x, with a lower stream
+abbrev pub After : Slot → Slot → Type 0
+After x y = y .used ≡ true → (x .used ≡ true) × (x .stream .0 < y .stream .0)
+
+-- the slots in use stand first, ascending by stream
+abbrev pub InOrder : List Slot → Type 0
+InOrder [] = Unit {0}
+InOrder (x ∷ xs) = All (After x) xs × InOrder xs
 
 pub record Kept (n : Node) : Type 0 where
   pub slots-32 : length (n .slots) ≡ slotCount
-  pub distinct : Distinct (n .slots)
+  pub in-order : InOrder (n .slots)
   pub each : All (KeptSlot (n .counter)) (n .slots)

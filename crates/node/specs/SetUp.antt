@@ -1,12 +1,14 @@
 -- Setting up a stream: the replies BadSettings, Taken, TableFull, in this order.
-use mathlib.Core.Bool.{not}
-use mathlib.Core.List.{[], _∷_}
+use mathlib.Core.Bool.{cond, not}
+use mathlib.Core.List.{List, [], _∷_}
+use lib.Dec.{ltb}
 use Rattle.wire.specs.declared.ids.Stream.{Stream}
 use Rattle.wire.specs.declared.settings.Settings.{Settings}
 use Rattle.wire.specs.declared.reply.Reply.the-variants.{BadSettings, TableFull, Taken}
 use Rattle.wire.specs.Settings.{legal}
+use Rattle.node.specs.declared.slots.Slot.{Slot}
 use Rattle.node.specs.declared.Node.{Node}
-use Rattle.node.specs.Slots.{slotFor, isFree, onFirst, some}
+use Rattle.node.specs.Slots.{slotFor, isFree, some}
 use Rattle.node.specs.Nodes.{hasSlot, withSlots, Outcome, Refusals, unlessRefused, done}
 
 -- what refuses a stream and its settings
@@ -17,8 +19,14 @@ setUpRefusals s settings n =
     ∷ (TableFull, not (some isFree (n .slots)))
     ∷ []
 
--- the slots are kept in the order of set up: the first free one is taken
+-- the slots in use stand first, ascending by stream: of two slots the one with the lower stream stays, and the other is carried on, until a
+-- free slot gives way
+unfoldable pub inPlace : Slot → List Slot → List Slot
+inPlace x [] = []
+inPlace x (y ∷ ys) =
+    cond (isFree y) (x ∷ ys)
+    (cond (ltb (x .stream .0) (y .stream .0)) (x ∷ inPlace y ys) (y ∷ inPlace x ys))
+
 unfoldable pub setUp : Stream → Settings → Node → Outcome
 setUp s settings n =
-    unlessRefused n (setUpRefusals s settings n)
-    (done (withSlots (onFirst isFree (λ x. slotFor s settings) (n .slots)) n) [])
+    unlessRefused n (setUpRefusals s settings n) (done (withSlots (inPlace (slotFor s settings) (n .slots)) n) [])

@@ -1,9 +1,9 @@
--- A tick: the counter moves, then the slots are taken by ascending stream. Its one refusal is ShortOutput.
+-- A tick: the counter moves, then the slots are taken in the order of the table. Its one refusal is ShortOutput.
 use Prim.Native.Nat.{ℕ, _+_}
 use mathlib.Core.Bool.{Bool, cond, not, _&&_, _||_}
 use mathlib.Core.List.{List, [], _∷_, _++_, map}
 use lib.ListN.{length}
-use lib.Dec.{eqb, ltb}
+use lib.Dec.{ltb}
 use Rattle.wire.specs.declared.reply.Reply.the-variants.{ShortOutput}
 use Rattle.wire.specs.declared.settings.Settings.{Settings}
 use Rattle.wire.specs.Settings.{isImd, isTwoMessage}
@@ -44,13 +44,6 @@ lapsed age x =
     (cond (due age x) (withMessage noMessage x)
     (cond (holdOver age x) (withMessage (released (x .message)) x) x))
 
--- x in its place in a list that ascends by stream. A stream has one place: that two slots have one stream is true only of nodes that no call makes.
-abbrev pub place : Slot → List Slot → List Slot
-place x [] = x ∷ []
-place x (y ∷ ys) =
-    cond (ltb (y .stream .0) (x .stream .0)) (y ∷ place x ys)
-    (cond (eqb (x .stream .0) (y .stream .0)) (x ∷ ys) (x ∷ y ∷ ys))
-
 module _ (clock : Clock) (now : ℕ) where
   abbrev pub ageOf : Slot → ℕ
   ageOf x = clock .age now (x .message .stamp)
@@ -58,10 +51,10 @@ module _ (clock : Clock) (now : ℕ) where
   abbrev pub tickSlot : Slot → Slot
   tickSlot x = lapsed (ageOf x) x
 
-  -- the slots that are due now, by ascending stream
+  -- the slots that are due now, in the order of the table: by ascending stream in every node that calls make
   unfoldable pub dueSlots : List Slot → List Slot
   dueSlots [] = []
-  dueSlots (x ∷ xs) = cond (due (ageOf x) x) (place x (dueSlots xs)) (dueSlots xs)
+  dueSlots (x ∷ xs) = cond (due (ageOf x) x) (x ∷ dueSlots xs) (dueSlots xs)
 
 -- the record of a slot's message
 abbrev pub recordFrom : Slot → List ℕ
