@@ -2,7 +2,6 @@
 pub mod Tests
 pub mod Stirring
 pub mod LeastKey
-pub mod Placed
 pub mod DueOrder
 pub mod Loops
 pub mod Cases

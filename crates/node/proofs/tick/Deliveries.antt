@@ -24,7 +24,7 @@ use Rattle.node.specs.Calls.{Call, outcome, after}
 use Rattle.node.specs.Reachable.{Distinct}
 use Rattle.node.proofs.Choices.{neither}
 use Rattle.node.proofs.tick.Tests.{due-tells}
-use Rattle.node.proofs.tick.Placed.{Compared, below, equal, above, compared, placed-before, placed-instead, placed-after}
+use Rattle.node.proofs.slot_order.Placed.{Compared, below, equal, above, compared, placed-before, placed-instead, placed-after}
 
 -- ── a slot that was placed ──
 in-placed : (x : Slot) (l : List Slot) → List·Memᴰ x (place x l)

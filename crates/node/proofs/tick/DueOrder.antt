@@ -13,7 +13,7 @@ use Rattle.node.specs.Clock.{Clock}
 use Rattle.node.specs.Tick.{due, place, ageOf, dueSlots}
 use Rattle.node.specs.Selection.{keyOf, leastAt}
 use Rattle.node.specs.Reachable.{All}
-use Rattle.node.proofs.tick.Placed.{Compared, below, equal, above, compared, placed-before, placed-instead, placed-after}
+use Rattle.node.proofs.slot_order.Placed.{Compared, below, equal, above, compared, placed-before, placed-instead, placed-after}
 use Rattle.node.proofs.tick.Ascending.{Before, Ascends}
 use Rattle.node.proofs.tick.LeastKey.{low-key-is-not-before, high-key-is-not-before, key-is-before, only-key-is-before, least-is-here}
 use Rattle.node.proofs.tick.LeastKey.{least-is-later, at-most-or-above}
