@@ -21,11 +21,15 @@ setUpRefusals s settings n =
 
 -- the slots in use stand first, ascending by stream: of two slots the one with the lower stream stays, and the other is carried on, until a
 -- free slot gives way
+abbrev pub lower : Slot → Slot → Slot
+lower x y = cond (ltb (x .stream .0) (y .stream .0)) x y
+
+abbrev pub higher : Slot → Slot → Slot
+higher x y = cond (ltb (x .stream .0) (y .stream .0)) y x
+
 unfoldable pub inPlace : Slot → List Slot → List Slot
 inPlace x [] = []
-inPlace x (y ∷ ys) =
-    cond (isFree y) (x ∷ ys)
-    (cond (ltb (x .stream .0) (y .stream .0)) (x ∷ inPlace y ys) (y ∷ inPlace x ys))
+inPlace x (y ∷ ys) = cond (isFree y) (x ∷ ys) (lower x y ∷ inPlace (higher x y) ys)
 
 unfoldable pub setUp : Stream → Settings → Node → Outcome
 setUp s settings n =

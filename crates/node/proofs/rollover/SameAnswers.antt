@@ -16,7 +16,7 @@ use Rattle.node.specs.declared.Node.{Node}
 use Rattle.node.specs.Slots.{restamped, toSend, slotFor, isOf, isFree, isReceiver, isSender, withParts, withMessage}
 use Rattle.node.specs.Nodes.{fresh, slotOf, onSlot, Outcome, Refusals, unlessRefused, done}
 use Rattle.node.specs.Clock.{period, unbounded, rolled}
-use Rattle.node.specs.SetUp.{setUpRefusals, inPlace, setUp}
+use Rattle.node.specs.SetUp.{setUpRefusals, lower, higher, inPlace, setUp}
 use Rattle.node.specs.Hear.{heardBy, deliveredAtOnce, hearRefusals, hear}
 use Rattle.node.specs.Request.{requested, requestRefusals, request}
 use Rattle.node.specs.NextFrame.{pendingIn, isNone, hasFrame, lowestGiven, givenOut, payloadFor, give, nextRefusals, nextFrame}
@@ -40,10 +40,11 @@ in-place-rolls : (x : Slot) (ys : List Slot) → map rollSlot (inPlace x ys) ≡
 unfolding inPlace
 in-place-rolls x [] = refl
 in-place-rolls x (y ∷ ys) =
+    let less = ltb (x .stream .0) (y .stream .0) in
+    let low : rollSlot (lower x y) ≡ lower (rollSlot x) (rollSlot y) = into rollSlot less refl refl in
+    let high : rollSlot (higher x y) ≡ higher (rollSlot x) (rollSlot y) = into rollSlot less refl refl in
     into (map rollSlot) (isFree y) refl
-    (into (map rollSlot) (ltb (x .stream .0) (y .stream .0))
-    (ap (λ (l : List Slot). rollSlot x ∷ l) (in-place-rolls y ys))
-    (ap (λ (l : List Slot). rollSlot y ∷ l) (in-place-rolls x ys)))
+    (rw (← low, ← high) (ap (λ (l : List Slot). rollSlot (lower x y) ∷ l) (in-place-rolls (higher x y) ys)))
 
 set-up-rolls : (s : Stream) (settings : Settings) (u : Node) → rollOutcome (setUp s settings u) ≡ setUp s settings (roll u)
 unfolding setUp

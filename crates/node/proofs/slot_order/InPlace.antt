@@ -32,7 +32,7 @@ in-place-fills x (y ∷ ys) room = arm (isFree y) (ltb (x .stream .0) (y .stream
     Filled z = some isFree ys ≡ true → List·Permᴰ (inPlace z ys) (firstFree z ys)
 
     arm : (t u : Bool) → isFree y ≡ t → Filled x → Filled y
-        → List·Permᴰ (cond t (x ∷ ys) (cond u (x ∷ inPlace y ys) (y ∷ inPlace x ys))) (cond t (x ∷ ys) (y ∷ firstFree x ys))
+        → List·Permᴰ (cond t (x ∷ ys) (cond u x y ∷ inPlace (cond u y x) ys)) (cond t (x ∷ ys) (y ∷ firstFree x ys))
     arm true u e with-x with-y = Permᴰ·refl (x ∷ ys)
     arm false true e with-x with-y =
         let later = rw e at room in

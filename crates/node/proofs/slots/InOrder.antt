@@ -11,7 +11,7 @@ use Rattle.wire.specs.declared.ids.Stream.{Stream}
 use Rattle.wire.specs.declared.settings.Settings.{Settings}
 use Rattle.node.specs.declared.slots.Slot.{Slot}
 use Rattle.node.specs.Slots.{empty, slotFor, isFree, isOf, onFirst, some}
-use Rattle.node.specs.SetUp.{inPlace}
+use Rattle.node.specs.SetUp.{higher, inPlace}
 use Rattle.node.specs.Reachable.{All, After, InOrder}
 use Rattle.node.specs.SlotOrder.{Distinct}
 use Rattle.node.proofs.Choices.{contrary, neither, either-way}
@@ -25,7 +25,7 @@ all-in-place P x p [] ps = tt
 all-in-place P x p (y ∷ ys) ps =
     arm (isFree y) (ltb (x .stream .0) (y .stream .0)) (all-in-place P x p ys (ps .1)) (all-in-place P y (ps .0) ys (ps .1))
   where
-    arm : (t u : Bool) → All P (inPlace x ys) → All P (inPlace y ys) → All P (cond t (x ∷ ys) (cond u (x ∷ inPlace y ys) (y ∷ inPlace x ys)))
+    arm : (t u : Bool) → All P (inPlace x ys) → All P (inPlace y ys) → All P (cond t (x ∷ ys) (cond u x y ∷ inPlace (cond u y x) ys))
     arm true u with-x with-y = (p, ps .1)
     arm false true with-x with-y = (p, with-y)
     arm false false with-x with-y = (ps .0, with-x)
@@ -34,8 +34,7 @@ pub length-in-place : (x : Slot) (ys : List Slot) → length (inPlace x ys) ≡ 
 unfolding inPlace
 length-in-place x [] = refl
 length-in-place x (y ∷ ys) =
-    either-way length (isFree y) refl
-    (either-way length (ltb (x .stream .0) (y .stream .0)) (ap suc (length-in-place y ys)) (ap suc (length-in-place x ys)))
+    either-way length (isFree y) refl (ap suc (length-in-place (higher x y) ys))
 
 abbrev Apart : Slot → Slot → Type 0
 Apart x y = y .used ≡ true → x .stream .0 ≡ y .stream .0 → ⊥
@@ -50,7 +49,7 @@ in-place-in-order x used (y ∷ ys) apart h =
   where
     arm : (t u : Bool) → isFree y ≡ t → ltb (x .stream .0) (y .stream .0) ≡ u
         → InOrder (inPlace x ys) → (y .used ≡ true → InOrder (inPlace y ys))
-        → InOrder (cond t (x ∷ ys) (cond u (x ∷ inPlace y ys) (y ∷ inPlace x ys)))
+        → InOrder (cond t (x ∷ ys) (cond u x y ∷ inPlace (cond u y x) ys))
     -- what follows a free slot is free
     arm true u e f with-x with-y =
         (all-weaken (After y) (After x) (λ z a used-z. contrary (a used-z .0) (not-true (y .used) e)) ys (h .0), h .1)
