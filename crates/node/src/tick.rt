@@ -220,68 +220,24 @@ impl Node {
         }
         let now = next(self.counter);
         self.counter = now;
-        // Most ticks change no slot, so the slots are only read at first: which of them stir, and whether any does; of the due
-        // ones the keys, how many they are, and the place of the least key, with the key.
-        let mut keys = [0u64; Node::SLOTS];
-        let mut stirring = [false; Node::SLOTS];
-        let mut any = false;
-        let mut left: usize = 0;
-        let mut place: usize = Node::SLOTS;
-        let mut best: u64 = 0;
-        let mut i: usize = Node::SLOTS;
-        while i > 0 {
-            i -= 1;
+        let mut at: usize = 0;
+        let mut i: usize = 0;
+        while i < Node::SLOTS {
             let slot = self.slots[i];
             let a = age(now, slot.message.stamp);
             if slot.may_stir(a) {
                 // Read again, so that of the other slots only a few fields are read.
                 let old = self.slots[i];
-                if old.stirs(a) {
-                    let key = old.key(a);
-                    keys[i] = key;
-                    stirring[i] = true;
-                    any = true;
-                    if key > 0 {
-                        left += 1;
-                        if is_before(1, key, best) {
-                            place = i;
-                            best = key;
-                        }
-                    }
+                if old.due(a) {
+                    self.slots[i] = old.stirred();
+                    let message = old.message;
+                    let bytes = message.all_bytes();
+                    at += write_record(&mut out[at..], old.stream, bytes, message.len);
+                } else if old.stirs(a) {
+                    self.slots[i] = old.stirred();
                 }
             }
-        }
-        if !any {
-            return Delivered {
-                node: self,
-                reply: Reply::Done,
-                written: 0,
-            };
-        }
-        // The records of the due slots, each after the one before; its key is then taken out.
-        let mut at: usize = 0;
-        let mut from: u64 = 1;
-        while place < Node::SLOTS {
-            let slot = self.slots[place];
-            let message = slot.message;
-            let bytes = message.all_bytes();
-            at += write_record(&mut out[at..], slot.stream, bytes, message.len);
-            from = wide32(slot.stream.0) + 2;
-            keys[place] = 0;
-            left -= 1;
-            place = Node::SLOTS;
-            if left > 0 {
-                place = least(&keys, from);
-            }
-        }
-        // The slots that stir, after the tick.
-        let mut j: usize = Node::SLOTS;
-        while j > 0 {
-            j -= 1;
-            if stirring[j] {
-                let slot = self.slots[j];
-                self.slots[j] = slot.stirred();
-            }
+            i += 1;
         }
         Delivered {
             node: self,
