@@ -1,25 +1,25 @@
 -- What every reached node keeps is kept by every call.
 use Prim.Native.Nat.{ℕ, _+_, _-_}
 use mathlib.Core.Path.{_≡_, refl, _∙_}
-use mathlib.Core.Bool.{true, and-eq-true-iff}
+use mathlib.Core.Bool.{Bool, true, false, cond, not, _&&_}
 use mathlib.Core.List.{List, [], _∷_}
+use lib.Dec.{leb}
 use lib.ListN.{length, length-map}
 use Rattle.wire.specs.declared.ids.Stream.{Stream}
 use Rattle.wire.specs.declared.ids.BusId.{BusId}
 use Rattle.wire.specs.declared.settings.Settings.{Settings}
-use Rattle.wire.specs.Identifiers.{streamOf, codeOf}
+use Rattle.wire.specs.Identifiers.{maxStream, streamOf, codeOf}
 use Rattle.wire.proofs.Frames.{frame-length}
 use Rattle.node.specs.declared.slots.Slot.{Slot}
 use Rattle.node.specs.declared.Node.{Node}
-use Rattle.node.specs.Slots.{slotFor, empty, isFree, isOf}
-use Rattle.node.specs.Nodes.{fresh, slotCount, slotOf, onSlot, Outcome, Refusals}
+use Rattle.node.specs.Slots.{slotFor, empty, isOf, first, onFirst}
+use Rattle.node.specs.Nodes.{fresh, slotCount, slotOf, withSlots, Outcome, Refusals}
 use Rattle.node.specs.Clock.{unbounded}
 use Rattle.node.specs.SetUp.{setUp}
 use Rattle.node.specs.Hear.{hear, heardBy}
 use Rattle.node.specs.Tick.{tick, tickSlot}
 use Rattle.node.specs.Request.{request, requested}
-use Rattle.node.specs.NextFrame.{nextFrame, give, givenOut, pendingIds}
-use Rattle.node.specs.Selection.{lowestOrAbove}
+use Rattle.node.specs.NextFrame.{pendingCodes, idsFrom, pendingIn, isNone, hasFrame, lowestFrame, lowestGiven, give, nextFrame}
 use Rattle.node.specs.Calls.{Call, outcome, afterFrom, after}
 use Rattle.node.specs.Reachable.{KeptSlot, Kept}
 use Rattle.node.proofs.Cases.{Case, by-case}
@@ -29,12 +29,21 @@ use Rattle.node.proofs.tick.Cases.{tick-cases}
 use Rattle.node.proofs.request.Cases.{request-cases}
 use Rattle.node.proofs.next_frame.Cases.{next-cases}
 use Rattle.node.proofs.slots.Table.{length-on-first, all-map, all-replicate, all-first, all-on-first}
-use Rattle.node.proofs.slots.Streams.{KeepsKind, heard-keeps, lapsed-keeps, requested-keeps, given-out-keeps, distinct-fresh, distinct-map}
-use Rattle.node.proofs.slots.Streams.{distinct-on-first, distinct-set-up}
+use Rattle.node.proofs.slots.Streams.{KeepsKind, heard-keeps, lapsed-keeps, requested-keeps, lowest-given-keeps}
+use Rattle.node.proofs.slots.InOrder.{all-in-place, length-in-place, set-up-in-order, fresh-in-order, map-in-order, on-first-in-order}
 use Rattle.node.proofs.kept.EachSlot.{kept-empty, kept-set-up, kept-heard, kept-lapsed, kept-requested, kept-given-out}
 
+-- a frame is pending only in a slot that is set up
+frame-used : (x : Slot) → hasFrame x ≡ true → x .used ≡ true
+unfolding pendingIn
+frame-used x = arm (x .used)
+  where
+    arm : (u : Bool) → not (isNone (cond (u && leb (x .stream .0) maxStream) (idsFrom (x .stream .0) (pendingCodes x)) [])) ≡ true → u ≡ true
+    arm true e = refl
+    arm false e = e
+
 pub kept-fresh : Kept fresh
-kept-fresh = record { slots-32 = refl; distinct = distinct-fresh slotCount; each = all-replicate (KeptSlot 0) slotCount empty (kept-empty 0) }
+kept-fresh = record { slots-32 = refl; in-order = fresh-in-order slotCount; each = all-replicate (KeptSlot 0) slotCount empty (kept-empty 0) }
 
 module _ (n : Node) (k : Kept n) where
   -- a refusal keeps all
@@ -45,20 +54,20 @@ module _ (n : Node) (k : Kept n) where
   set-up-keeps s settings =
       kept-unless (set-up-cases s settings n .case) λ h.
       record {
-        slots-32 = length-on-first isFree _ (n .slots) ∙ k .slots-32;
-        distinct = distinct-set-up s settings (n .slots) (h .new) (k .distinct);
-        each = all-on-first (KeptSlot (n .counter)) isFree (λ x. slotFor s settings) (n .slots) (k .each)
-            (λ free kx. kept-set-up (n .counter) s settings (h .lawful));
+        slots-32 = length-in-place (slotFor s settings) (n .slots) ∙ k .slots-32;
+        in-order = set-up-in-order s settings (n .slots) (h .new) (k .in-order);
+        each = all-in-place (KeptSlot (n .counter)) (slotFor s settings) (kept-set-up (n .counter) s settings (h .lawful)) (n .slots) (k .each);
       }
 
   -- a change of one slot
-  on-slot-keeps : (s : Stream) (f : Slot → Slot) → KeepsKind f
-      → (isOf s (slotOf s n) ≡ true → KeptSlot (n .counter) (slotOf s n) → KeptSlot (n .counter) (f (slotOf s n))) → Kept (onSlot s f n)
-  on-slot-keeps s f keeps step =
+  on-first-keeps : (test : Slot → Bool) (f : Slot → Slot) → KeepsKind f
+      → (let x = first test (n .slots) in test x ≡ true → KeptSlot (n .counter) x → KeptSlot (n .counter) (f x))
+      → Kept (withSlots (onFirst test f (n .slots)) n)
+  on-first-keeps test f keeps step =
       record {
-        slots-32 = length-on-first (isOf s) f (n .slots) ∙ k .slots-32;
-        distinct = distinct-on-first f keeps (isOf s) (n .slots) (k .distinct);
-        each = all-on-first (KeptSlot (n .counter)) (isOf s) f (n .slots) (k .each) step;
+        slots-32 = length-on-first test f (n .slots) ∙ k .slots-32;
+        in-order = on-first-in-order f keeps test (n .slots) (k .in-order);
+        each = all-on-first (KeptSlot (n .counter)) test f (n .slots) (k .each) step;
       }
 
   -- the slot of any stream, the empty one where it has none
@@ -68,7 +77,7 @@ module _ (n : Node) (k : Kept n) where
   hear-keeps : (id : BusId) (dlc : ℕ) (payload output : List ℕ) → Kept (hear id dlc payload output n .node)
   hear-keeps id dlc payload output =
       kept-unless (hear-cases id dlc payload output n .case) λ h.
-      on-slot-keeps (streamOf id) (heardBy (n .counter) (codeOf id) payload) (heard-keeps (n .counter) (codeOf id) payload)
+      on-first-keeps (isOf (streamOf id)) (heardBy (n .counter) (codeOf id) payload) (heard-keeps (n .counter) (codeOf id) payload)
       (λ here kx.
       kept-heard (n .counter) (slotOf (streamOf id) n) kx (codeOf id) payload (h .own) (h .fits) (frame-length id dlc (length payload) (h .good)))
 
@@ -77,23 +86,22 @@ module _ (n : Node) (k : Kept n) where
       kept-unless (tick-cases output unbounded n .case) λ h.
       record {
         slots-32 = length-map (n .slots) _ ∙ k .slots-32;
-        distinct = distinct-map (tickSlot unbounded (n .counter + 1)) (λ x. lapsed-keeps (n .counter + 1 - x .message .stamp) x) (n .slots) (k .distinct);
+        in-order = map-in-order (tickSlot unbounded (n .counter + 1)) (λ x. lapsed-keeps (n .counter + 1 - x .message .stamp) x) (n .slots) (k .in-order);
         each = all-map (KeptSlot (n .counter)) (KeptSlot (n .counter + 1)) _ (kept-lapsed (n .counter)) (n .slots) (k .each);
       }
 
   request-keeps : (s : Stream) (payload : List ℕ) → Kept (request s payload n .node)
   request-keeps s payload =
       kept-unless (request-cases payload s n .case) λ h.
-      on-slot-keeps s (requested (n .counter) payload) (requested-keeps (n .counter) payload)
+      on-first-keeps (isOf s) (requested (n .counter) payload) (requested-keeps (n .counter) payload)
       (λ here kx. kept-requested (n .counter) (slotOf s n) kx payload (h .own) (h .short))
 
   next-frame-keeps : (output : List ℕ) → Kept (nextFrame output n .node)
   unfolding give
   next-frame-keeps output =
       kept-unless (next-cases output n .case) λ h.
-      let id : BusId = record { 0 = lowestOrAbove (pendingIds (n .slots)) } in
-      on-slot-keeps (streamOf id) (givenOut (codeOf id)) (given-out-keeps (codeOf id))
-      (λ here kx. kept-given-out (n .counter) (slotOf (streamOf id) n) kx (codeOf id) (and-eq-true-iff _ _ .0 here .0))
+      on-first-keeps hasFrame lowestGiven lowest-given-keeps
+      (λ here kx. let x = first hasFrame (n .slots) in kept-given-out (n .counter) x kx (codeOf (lowestFrame x)) (frame-used x here))
 
 pub kept-by : (c : Call) (n : Node) → Kept n → Kept (outcome unbounded c n .node)
 kept-by (Call.setUp s settings) n k = set-up-keeps n k s settings

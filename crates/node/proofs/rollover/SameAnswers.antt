@@ -16,11 +16,11 @@ use Rattle.node.specs.declared.Node.{Node}
 use Rattle.node.specs.Slots.{restamped, toSend, slotFor, isOf, isFree, isReceiver, isSender, withParts, withMessage}
 use Rattle.node.specs.Nodes.{fresh, slotOf, onSlot, Outcome, Refusals, unlessRefused, done}
 use Rattle.node.specs.Clock.{period, unbounded, rolled}
-use Rattle.node.specs.SetUp.{setUpRefusals, setUp}
+use Rattle.node.specs.SetUp.{setUpRefusals, inPlace, setUp}
 use Rattle.node.specs.Hear.{heardBy, deliveredAtOnce, hearRefusals, hear}
 use Rattle.node.specs.Request.{requested, requestRefusals, request}
-use Rattle.node.specs.NextFrame.{pendingIn, pendingIds, lowest, givenOut, payloadFor, give, nextRefusals, nextFrame}
-use Rattle.node.specs.Tick.{late, due, holdOver, lapsed, place, tickSlot, ageOf, dueSlots, recordsFrom, recordFrom, tickRefusals, tick}
+use Rattle.node.specs.NextFrame.{pendingIn, isNone, hasFrame, lowestGiven, givenOut, payloadFor, give, nextRefusals, nextFrame}
+use Rattle.node.specs.Tick.{late, due, holdOver, lapsed, tickSlot, ageOf, dueSlots, recordsFrom, recordFrom, tickRefusals, tick}
 use Rattle.node.specs.Calls.{Call, outcome, afterFrom, after, Answer, answerOf, answersFrom, answers, rollSlot, roll, rollOutcome}
 use Rattle.node.specs.Reachable.{longest, KeptSlot, All, Kept}
 use Rattle.node.proofs.Choices.{into}
@@ -36,11 +36,20 @@ unless-refused-rolls u [] o p e = e
 unless-refused-rolls u ((r, t) ∷ rest) o p e = into rollOutcome t refl (unless-refused-rolls u rest o p e)
 
 -- ── setting up ──
+in-place-rolls : (x : Slot) (ys : List Slot) → map rollSlot (inPlace x ys) ≡ inPlace (rollSlot x) (map rollSlot ys)
+unfolding inPlace
+in-place-rolls x [] = refl
+in-place-rolls x (y ∷ ys) =
+    into (map rollSlot) (isFree y) refl
+    (into (map rollSlot) (ltb (x .stream .0) (y .stream .0))
+    (ap (λ (l : List Slot). rollSlot x ∷ l) (in-place-rolls y ys))
+    (ap (λ (l : List Slot). rollSlot y ∷ l) (in-place-rolls x ys)))
+
 set-up-rolls : (s : Stream) (settings : Settings) (u : Node) → rollOutcome (setUp s settings u) ≡ setUp s settings (roll u)
 unfolding setUp
 set-up-rolls s settings u =
     rw (some-map (isOf s) rollSlot (λ x. refl) (u .slots), some-map isFree rollSlot (λ x. refl) (u .slots))
-    (rw (on-first-map isFree rollSlot (λ x. refl) (λ x. slotFor s settings) (λ x. slotFor s settings) (λ x. refl) (u .slots))
+    (rw (← (in-place-rolls (slotFor s settings) (u .slots)))
     (unless-refused-rolls u (setUpRefusals s settings u) _ _ refl))
 
 -- ── the slot of a stream ──
@@ -90,21 +99,25 @@ request-rolls s payload u =
     (ap (λ (n : Node). done n []) (on-slot-rolls s _ _ (requested-rolls (u .counter) payload) u)))
 
 -- ── the next frame ──
-pending-rolls : (xs : List Slot) → pendingIds (map rollSlot xs) ≡ pendingIds xs
-unfolding pendingIds pendingIn
-pending-rolls [] = refl
-pending-rolls (x ∷ xs) = ap (λ (is : List ℕ). pendingIn x ++ is) (pending-rolls xs)
+frame-rolls : (x : Slot) → pendingIn (rollSlot x) ≡ pendingIn x
+unfolding pendingIn
+frame-rolls x = refl
 
-give-rolls : (id : BusId) (u : Node) → rollOutcome (give id u) ≡ give id (roll u)
-unfolding give payloadFor givenOut
-give-rolls id u =
-    rw (slot-rolls (streamOf id) u, ← (on-slot-rolls (streamOf id) (givenOut (codeOf id)) (givenOut (codeOf id)) (λ x. refl) u))
+has-frame-rolls : (x : Slot) → hasFrame (rollSlot x) ≡ hasFrame x
+has-frame-rolls x = ap (λ (is : List ℕ). not (isNone is)) (frame-rolls x)
+
+give-rolls : (u : Node) → rollOutcome (give u) ≡ give (roll u)
+unfolding give payloadFor givenOut pendingIn
+give-rolls u =
+    rw (
+      first-map hasFrame rollSlot has-frame-rolls refl (u .slots),
+      on-first-map hasFrame rollSlot has-frame-rolls lowestGiven lowestGiven (λ x. refl) (u .slots),
+    )
 
 next-frame-rolls : (output : List ℕ) (u : Node) → rollOutcome (nextFrame output u) ≡ nextFrame output (roll u)
 unfolding nextFrame
 next-frame-rolls output u =
-    let pending = pendingIds (u .slots) in
-    rw (pending-rolls (u .slots)) (unless-refused-rolls u (nextRefusals output pending) _ _ (give-rolls (record { 0 = lowest pending }) u))
+    rw (some-map hasFrame rollSlot has-frame-rolls (u .slots)) (unless-refused-rolls u (nextRefusals output u) _ _ (give-rolls u))
 
 -- ── a tick ──
 next-rolls : (now : ℕ) → unbounded .next now % period ≡ rolled .next (now % period)
@@ -158,19 +171,13 @@ module _ (now : ℕ) where
       sym (due-rolls (ageOf unbounded now x) x)
       ∙ same-age _ _ (rollSlot x) _ refl (λ h. age-rolls now (x .message .stamp) (k h .0) (k h .1)) .1
 
-place-rolls : (x : Slot) (ys : List Slot) → map rollSlot (place x ys) ≡ place (rollSlot x) (map rollSlot ys)
-place-rolls x [] = refl
-place-rolls x (y ∷ ys) =
-    into (map rollSlot) (ltb (y .stream .0) (x .stream .0)) (ap (λ (l : List Slot). rollSlot y ∷ l) (place-rolls x ys))
-    (into (map rollSlot) (eqb (x .stream .0) (y .stream .0)) refl refl)
-
 due-slots-roll : (now : ℕ) (xs : List Slot) → All (Counted now) xs
     → map rollSlot (dueSlots unbounded now xs) ≡ dueSlots rolled (now % period) (map rollSlot xs)
 unfolding dueSlots
 due-slots-roll now [] ks = refl
 due-slots-roll now (x ∷ xs) ks =
     rw (← (due-slot-rolls now x (ks .0)), ← (due-slots-roll now xs (ks .1)))
-    (into (map rollSlot) (due (ageOf unbounded now x) x) (place-rolls x (dueSlots unbounded now xs)) refl)
+    (into (map rollSlot) (due (ageOf unbounded now x) x) refl refl)
 
 records-roll : (xs : List Slot) → recordsFrom (map rollSlot xs) ≡ recordsFrom xs
 unfolding recordsFrom

@@ -7,9 +7,9 @@ use Rattle.wire.specs.declared.ids.Stream.{Stream}
 use Rattle.wire.specs.declared.settings.Settings.{Settings}
 use Rattle.wire.specs.Settings.{legal}
 use Rattle.node.specs.declared.Node.{Node}
-use Rattle.node.specs.Slots.{slotFor, isFree, onFirst, some}
+use Rattle.node.specs.Slots.{slotFor, isFree, some}
 use Rattle.node.specs.Nodes.{hasSlot, withSlots, Outcome, done}
-use Rattle.node.specs.SetUp.{setUpRefusals, setUp}
+use Rattle.node.specs.SetUp.{setUpRefusals, inPlace, setUp}
 use Rattle.node.proofs.Cases.{Passes, Cases, cases}
 
 module _ (s : Stream) (settings : Settings) (n : Node) where
@@ -25,7 +25,7 @@ module _ (s : Stream) (settings : Settings) (n : Node) where
   set-up-passes h = (ap not (h .lawful), (h .new, (ap not (h .room), tt)))
 
   abbrev pub set : Outcome
-  set = done (withSlots (onFirst isFree (λ x. slotFor s settings) (n .slots)) n) []
+  set = done (withSlots (inPlace (slotFor s settings) (n .slots)) n) []
 
   pub set-up-cases : Cases n (setUpRefusals s settings n) SetUpFacts set (setUp s settings n)
   unfolding setUp
