@@ -1,10 +1,8 @@
 -- Laws that a tick rests on.
 pub mod Tests
 pub mod Stirring
-pub mod LeastKey
 pub mod Placed
-pub mod DueOrder
-pub mod Loops
+pub mod OnePass
 pub mod Cases
 pub mod Ways
 pub mod Ascending

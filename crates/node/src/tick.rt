@@ -1,4 +1,4 @@
-// A tick: the counter moves, what is due is delivered by ascending stream, and what is late dropped.
+// A tick: the counter moves, what is due is delivered in the order of the slots, and what is late dropped.
 use crate::Delivered;
 use crate::Node;
 use crate::slots::Message;
@@ -8,13 +8,12 @@ use wire::reply::Reply;
 use wire::settings::Settings;
 ghost use mathlib.Core.Path.{_≡_};
 ghost use mathlib.Core.List.{List};
-ghost use Prim.Native.Nat.{_+_, _≤_, _<_};
 ghost use lib.ListN.{length};
 ghost use Rattle.wire.specs.Frames.{maxPayload};
 ghost use Rattle.wire.specs.Delivered.{over};
-ghost use Rattle.node.specs.Nodes.{slotCount, asDelivered};
+ghost use Rattle.node.specs.Nodes.{asDelivered};
 ghost use Rattle.node.specs.Tick.{late, due, holdOver, tick};
-ghost use Rattle.node.specs.Selection.{stirs, mayStir, stirred, keyOf, before, above, leastAt};
+ghost use Rattle.node.specs.Stirring.{stirs, mayStir, stirred};
 ghost use Rattle.node.specs.Clock.{rolled, unbounded};
 ghost use Rattle.node.specs.Calls.{Call, after, rollOutcome};
 
@@ -22,12 +21,6 @@ fn wide16(x: u16) -> u32
     ensures { λ r. ⌜ r ≡ x ⌝ }
 {
     x as u32
-}
-
-fn wide32(x: u32) -> u64
-    ensures { λ r. ⌜ (r ≡ x) × (r < 4294967296) ⌝ }
-{
-    x as u64
 }
 
 // The counter after a tick.
@@ -129,16 +122,6 @@ impl Slot {
         self.due(age)
     }
 
-    // One above the stream, if the slot is due; else 0.
-    fn key(self, age: u16) -> u64
-        ensures { λ r. ⌜ r ≡ keyOf age self ⌝ }
-    {
-        if self.due(age) {
-            return wide32(self.stream.0) + 1;
-        }
-        0
-    }
-
     // What a tick makes of a slot that it changes.
     fn stirred(mut self) -> Slot
         ensures { λ r. ⌜ r ≡ stirred self ⌝ }
@@ -166,39 +149,6 @@ impl Slot {
     }
 }
 
-// Whether a key is `from` or above, and before the best of those after it, which is 0 where none of them counts.
-fn is_before(from: u64, key: u64, best: u64) -> bool
-    ensures { λ r. ⌜ r ≡ before from key best ⌝ }
-{
-    (from <= key) & ((best == 0) | (key <= best))
-}
-
-// How far a key lies above a number; a lower key lies further above it than any other, since the difference wraps around.
-fn above(from: u64, key: u64) -> u64
-    ensures { λ r. ⌜ (r ≡ above from key) × (from < 18446744073709551616) × (key < 18446744073709551616) ⌝ }
-{
-    std::num::wrapping_sub_u64(key, from)
-}
-
-// The place of the least key that is `from` or above, the first of them; the number of keys, where there is none.
-fn least(keys: &[u64; Node::SLOTS], from: u64) -> usize
-    requires { ⌜ (length (now keys) ≡ slotCount) × (1 ≤ from) ⌝ }
-    ensures { λ r. ⌜ r ≡ leastAt from (now (keys .entry)) ⌝ }
-{
-    let mut place: usize = Node::SLOTS;
-    let mut nearest = u64::MAX - from;
-    let mut i: usize = Node::SLOTS;
-    while i > 0 {
-        i -= 1;
-        let distance = above(from, keys[i]);
-        if distance <= nearest {
-            place = i;
-            nearest = distance;
-        }
-    }
-    place
-}
-
 impl Node {
     // A tick writes at most the longest record for each slot.
     pub const TICK_ROOM: usize = Node::SLOTS * Node::HEAR_ROOM;
@@ -221,8 +171,10 @@ impl Node {
         let now = next(self.counter);
         self.counter = now;
         let mut at: usize = 0;
-        let mut i: usize = 0;
-        while i < Node::SLOTS {
+        let mut passed: usize = 0;
+        while passed < Node::SLOTS {
+            let i = passed;
+            passed += 1;
             let slot = self.slots[i];
             let a = age(now, slot.message.stamp);
             if slot.may_stir(a) {
@@ -237,7 +189,6 @@ impl Node {
                     self.slots[i] = old.stirred();
                 }
             }
-            i += 1;
         }
         Delivered {
             node: self,
