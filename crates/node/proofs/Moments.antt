@@ -13,11 +13,11 @@ use Rattle.node.specs.declared.Node.{Node}
 use Rattle.node.specs.Slots.{slotFor, empty, sameBytes, first, onFirst, some}
 use Rattle.node.specs.Nodes.{fresh, Outcome}
 use Rattle.node.specs.Clock.{Clock, period, unbounded, rolled}
-use Rattle.node.specs.SetUp.{setUp}
+use Rattle.node.specs.SetUp.{inPlace, setUp}
 use Rattle.node.specs.Hear.{hear, heardBy, deliveredAtOnce}
 use Rattle.node.specs.Tick.{tick, late, due, holdOver, lapsed, dueSlots, recordsFrom}
 use Rattle.node.specs.Request.{request, requested}
-use Rattle.node.specs.NextFrame.{nextFrame, pendingIn, pendingIds, lowest, give, givenOut, payloadFor}
+use Rattle.node.specs.NextFrame.{nextFrame, pendingIn, lowest, give, givenOut, payloadFor}
 use Rattle.node.specs.Calls.{Call, outcome, afterFrom, after, roll, rollOutcome}
 use Rattle.node.specs.Moments.{five, receive, send, settings, ticks, Start, from-fresh, receiving, sending, Trial, call, splits, Shown, callsTo, shownBy}
 use Rattle.node.specs.Moments.{shows, Row, moments, MomentsHold}
@@ -47,7 +47,7 @@ startNode (receiving n) = idleNode receive n
 startNode (sending n) = idleNode send n
 
 started : (start : Start) → after unbounded (callsTo start) ≡ startNode start
-unfolding setUp legal onFirst some
+unfolding setUp inPlace legal onFirst some
 started from-fresh = refl
 started (receiving n) = receiver-idles n 0 ∙ ap (idleNode receive) (omega arith)
 started (sending n) = sender-idles n 0 ∙ ap (idleNode send) (omega arith)
@@ -74,8 +74,8 @@ each-same f g same [] = refl
 each-same f g same (r ∷ rows) = rw (same (r .trial), each-same f g same rows)
 
 computed : map (λ (r : Row). shortly (r .trial)) moments ≡ map (λ (r : Row). r .shown) moments
-unfolding moments setUp hear heardBy deliveredAtOnce tick late due holdOver lapsed dueSlots recordsFrom request requested
-    nextFrame pendingIn pendingIds lowest give givenOut payloadFor split carries recordOf badFrame legal sameBytes first onFirst some
+unfolding moments setUp inPlace hear heardBy deliveredAtOnce tick late due holdOver lapsed dueSlots recordsFrom request requested
+    nextFrame pendingIn lowest give givenOut payloadFor split carries recordOf badFrame legal sameBytes first onFirst some
 computed = refl
 
 -- the definitions, with the counter rolling over, show what the table says

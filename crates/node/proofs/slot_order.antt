@@ -1,9 +1,11 @@
 -- The order of the slots is seen by no caller.
 pub mod Reordered
 pub mod Settled
+pub mod Placed
 pub mod Records
 pub mod EveryCall
 pub mod InPlace
-pub mod InOnePass
+pub mod TickInOrder
+pub mod NextFrameInOrder
 pub mod InStreamOrder
 pub mod BothOrders

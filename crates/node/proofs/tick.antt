@@ -1,7 +1,6 @@
 -- Laws that a tick rests on.
 pub mod Tests
 pub mod Stirring
-pub mod Placed
 pub mod OnePass
 pub mod Cases
 pub mod Ways

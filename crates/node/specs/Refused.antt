@@ -117,4 +117,4 @@ pub record RepliesGiven (clock : Clock) : Type 0 where
   pub hear : (id : BusId) (dlc : ℕ) (payload output : List ℕ) (x : Slot) → Shows clock hearRows (hearRefusals id dlc payload output x)
   pub tick : (output : List ℕ) → Shows clock tickRows (tickRefusals output)
   pub request : (payload : List ℕ) (x : Slot) → Shows clock requestRows (requestRefusals payload x)
-  pub nextFrame : (output pending : List ℕ) → Shows clock nextRows (nextRefusals output pending)
+  pub nextFrame : (output : List ℕ) (n : Node) → Shows clock nextRows (nextRefusals output n)

@@ -5,20 +5,20 @@ use Rattle.wire.specs.Frames.{badFrame}
 use Rattle.wire.specs.Classes.{carries}
 use Rattle.node.specs.Slots.{sameBytes, first, onFirst, some}
 use Rattle.node.specs.Clock.{Clock}
-use Rattle.node.specs.SetUp.{setUp}
+use Rattle.node.specs.SetUp.{inPlace, setUp}
 use Rattle.node.specs.Hear.{heardBy, hear}
 use Rattle.node.specs.Tick.{tick}
 use Rattle.node.specs.Request.{requested, request}
-use Rattle.node.specs.NextFrame.{pendingIn, pendingIds, lowest, give, nextFrame}
+use Rattle.node.specs.NextFrame.{pendingIn, lowest, give, nextFrame}
 use Rattle.node.specs.Refused.{RepliesGiven}
 
 pub replies-given : (clock : Clock) → RepliesGiven clock
-unfolding setUp hear heardBy tick request requested nextFrame pendingIn pendingIds lowest give legal badFrame carries sameBytes first onFirst some
+unfolding setUp inPlace hear heardBy tick request requested nextFrame pendingIn lowest give legal badFrame carries sameBytes first onFirst some
 replies-given clock =
     record {
       setUp = λ s settings n. record { given = refl; every = refl };
       hear = λ id dlc payload output x. record { given = refl; every = refl };
       tick = λ output. record { given = refl; every = refl };
       request = λ payload x. record { given = refl; every = refl };
-      nextFrame = λ output low. record { given = refl; every = refl };
+      nextFrame = λ output n. record { given = refl; every = refl };
     }

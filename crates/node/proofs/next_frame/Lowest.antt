@@ -17,11 +17,16 @@ use Rattle.node.specs.declared.slots.Slot.{Slot}
 use Rattle.node.specs.declared.Node.{Node}
 use Rattle.node.specs.Slots.{isOf, some}
 use Rattle.node.specs.Nodes.{Refusals, unlessRefused}
-use Rattle.node.specs.NextFrame.{nextRoom, payloadCode, one, pendingCodes, idsFrom, pendingIn, pendingIds, give, nextRefusals, nextFrame, isNone, lowest}
-use Rattle.node.specs.Selection.{lowestOrAbove}
+use Rattle.node.specs.NextFrame.{nextRoom, payloadCode, one, pendingCodes, idsFrom, pendingIn, isNone, lowest}
+use Rattle.node.specs.OldLayout.{pendingIds, giveById, nextByIdRefusals, nextById}
 use Rattle.node.proofs.Choices.{contrary}
 
 -- ── of any identifiers ──
+-- the lowest of them; one above the highest, where there are none
+unfoldable pub lowestOrAbove : List ℕ → ℕ
+lowestOrAbove [] = maxBusId + 1
+lowestOrAbove (i ∷ is) = min i (lowestOrAbove is)
+
 pub lowest-at-most : (l : List ℕ) → lowestOrAbove l ≤ maxBusId + 1
 unfolding lowestOrAbove
 lowest-at-most [] = omega arith
@@ -231,18 +236,18 @@ lowest-same (i ∷ j ∷ is) small some = ap (min i) (lowest-same (j ∷ is) (λ
 -- these being pending
 pub by-lowest : (output : List ℕ) (n : Node) (ids : List ℕ) → ((i : ℕ) → List·Memᴰ i ids → i ≤ maxBusId)
     → let low = lowestOrAbove ids in
-    unlessRefused n (nextRefusals output ids) (give (record { 0 = lowest ids }) n)
-    ≡ unlessRefused n (refusalsByLowest output low) (give (record { 0 = low }) n)
+    unlessRefused n (nextByIdRefusals output ids) (giveById (record { 0 = lowest ids }) n)
+    ≡ unlessRefused n (refusalsByLowest output low) (giveById (record { 0 = low }) n)
 by-lowest output n ids small = go (isNone ids) refl
   where
     go : (t : Bool) → isNone ids ≡ t
-        → unlessRefused n (nextRefusals output ids) (give (record { 0 = lowest ids }) n)
-        ≡ unlessRefused n (refusalsByLowest output (lowestOrAbove ids)) (give (record { 0 = lowestOrAbove ids }) n)
+        → unlessRefused n (nextByIdRefusals output ids) (giveById (record { 0 = lowest ids }) n)
+        ≡ unlessRefused n (refusalsByLowest output (lowestOrAbove ids)) (giveById (record { 0 = lowestOrAbove ids }) n)
     go true e = rw (← (none-same ids small), e)
     go false e = rw (← (none-same ids small), e, lowest-same ids small e)
 
 pub next-by-lowest : (output : List ℕ) (n : Node)
     → let low = lowestOrAbove (pendingIds (n .slots)) in
-    nextFrame output n ≡ unlessRefused n (refusalsByLowest output low) (give (record { 0 = low }) n)
-unfolding nextFrame
+    nextById output n ≡ unlessRefused n (refusalsByLowest output low) (giveById (record { 0 = low }) n)
+unfolding nextById
 next-by-lowest output n = by-lowest output n (pendingIds (n .slots)) (λ i m. pending-in-range (n .slots) m)

@@ -12,20 +12,19 @@ use Rattle.node.specs.declared.Node.{Node}
 use Rattle.node.specs.Slots.{empty, slotFor, isFree, isOf}
 use Rattle.node.specs.Nodes.{fresh, slotCount, slotOf, withSlots, onSlot, Outcome, Refusals, unlessRefused, refused, done}
 use Rattle.node.specs.Clock.{Clock}
-use Rattle.node.specs.SetUp.{setUpRefusals, setUp}
+use Rattle.node.specs.SetUp.{setUpRefusals}
 use Rattle.node.specs.Hear.{heardBy, deliveredAtOnce, hearRefusals, hear}
-use Rattle.node.specs.Tick.{tickSlot, dueSlots, recordsFrom, ticked, tickRefusals, tick}
+use Rattle.node.specs.Tick.{tickSlot, recordsFrom, ticked, tickRefusals}
 use Rattle.node.specs.Request.{requested, requestRefusals, request}
-use Rattle.node.specs.NextFrame.{pendingIds, givenOut, give, nextFrame}
-use Rattle.node.specs.Selection.{lowestOrAbove}
+use Rattle.node.specs.NextFrame.{givenOut}
 use Rattle.node.specs.Calls.{Call, outcome, afterFrom, Answer, answerOf, answersFrom}
-use Rattle.node.specs.SlotOrder.{Settled, SameSlots, SameOutcome, Layout, firstFree, Fills, setUpIn, outcomeIn, afterBy, answersBy}
-use Rattle.node.specs.SlotOrder.{OrderUnseen, OrderNeverSeen, LayoutUnseen, LayoutNeverSeen, AlwaysSettled}
+use Rattle.node.specs.OldLayout.{Layout, firstFree, setUpIn, dueByStream, tickByStream, pendingIds, giveById, nextById, outcomeIn}
+use Rattle.node.specs.SlotOrder.{Settled, SameSlots, SameOutcome, Fills, LayoutUnseen, afterBy, answersBy}
 use Rattle.node.proofs.Cases.{Passes}
 use Rattle.node.proofs.set_up.Cases.{SetUpFacts, set-up-facts}
 use Rattle.node.proofs.slots.Table.{all-replicate}
 use Rattle.node.proofs.slots.Streams.{KeepsKind, heard-keeps, requested-keeps, given-out-keeps, distinct-fresh}
-use Rattle.node.proofs.next_frame.Lowest.{refusalsByLowest, next-by-lowest}
+use Rattle.node.proofs.next_frame.Lowest.{lowestOrAbove, refusalsByLowest, next-by-lowest}
 use Rattle.node.proofs.slot_order.Reordered.{some-reordered, first-reordered, on-first-reordered}
 use Rattle.node.proofs.slot_order.Settled.{EmptyIfFree, one-of-stream, free-alike, settled-reordered, settled-on-slot, settled-map, settled-set-up}
 use Rattle.node.proofs.slot_order.Settled.{tick-keeps, none-ticked}
@@ -93,8 +92,7 @@ module _ (n : Node) (settled : Settled (n .slots)) (others : List Slot) (reorder
       (unless-refused-alike same (hearRefusals id dlc payload output (slotOf s n))
       (λ passed. done-alike (deliveredAtOnce id payload) (same-on-slot s (heardBy (n .counter) code payload) (heard-keeps (n .counter) code payload))))
 
-  tick-alike : (clock : Clock) (output : List ℕ) → SameOutcome (tick clock output n) (tick clock output m)
-  unfolding tick
+  tick-alike : (clock : Clock) (output : List ℕ) → SameOutcome (tickByStream clock output n) (tickByStream clock output m)
   tick-alike clock output =
       let now = clock .next (n .counter) in
       let same-ticked : SameSlots (ticked clock n) (ticked clock m) =
@@ -104,7 +102,7 @@ module _ (n : Node) (settled : Settled (n .slots)) (others : List Slot) (reorder
         counter = refl;
       } in
       rw (← (due-reordered clock now reordered (settled .distinct)))
-      (unless-refused-alike same (tickRefusals output) (λ passed. done-alike (recordsFrom (dueSlots clock now (n .slots))) same-ticked))
+      (unless-refused-alike same (tickRefusals output) (λ passed. done-alike (recordsFrom (dueByStream clock now (n .slots))) same-ticked))
 
   request-alike : (s : Stream) (payload : List ℕ) → SameOutcome (request s payload n) (request s payload m)
   unfolding request
@@ -113,15 +111,15 @@ module _ (n : Node) (settled : Settled (n .slots)) (others : List Slot) (reorder
       (unless-refused-alike same (requestRefusals payload (slotOf s n))
       (λ passed. done-alike [] (same-on-slot s (requested (n .counter) payload) (requested-keeps (n .counter) payload))))
 
-  give-alike : (id : BusId) → SameOutcome (give id n) (give id m)
-  unfolding give
+  give-alike : (id : BusId) → SameOutcome (giveById id n) (giveById id m)
+  unfolding giveById
   give-alike id =
       record {
         answer = rw (same-slot (streamOf id));
         node = same-on-slot (streamOf id) (givenOut (codeOf id)) (given-out-keeps (codeOf id));
       }
 
-  next-frame-alike : (output : List ℕ) → SameOutcome (nextFrame output n) (nextFrame output m)
+  next-frame-alike : (output : List ℕ) → SameOutcome (nextById output n) (nextById output m)
   next-frame-alike output =
       let low = lowestOrAbove (pendingIds (n .slots)) in
       rw (next-by-lowest output n, next-by-lowest output m, ← (lowest-reordered reordered))
@@ -151,27 +149,9 @@ in-every-history f g R step (c ∷ cs) n m r =
     let rest = in-every-history f g R step cs (f c n .node) (g c m .node) (here .1) in
     (rw (here .0, rest .0), rest .1)
 
-pub layout-never-seen : LayoutNeverSeen
-layout-never-seen a b fills-a fills-b clock =
-    in-every-history (outcomeIn a clock) (outcomeIn b clock) SameSlots
-    (λ c n m same. let o = layout-unseen a b fills-a fills-b clock c n m same in (o .answer, o .node))
-
--- ── the first free place ──
+-- ── the old layout ──
 pub first-free-fills : Fills firstFree
 first-free-fills x xs room = Permᴰ·refl (firstFree x xs)
-
-pub in-first-free : (clock : Clock) (c : Call) (n : Node) → outcomeIn firstFree clock c n ≡ outcome clock c n
-unfolding setUp
-in-first-free clock (Call.setUp s settings) n = refl
-in-first-free clock (Call.hear id dlc payload output) n = refl
-in-first-free clock (Call.tick output) n = refl
-in-first-free clock (Call.request s payload) n = refl
-in-first-free clock (Call.nextFrame output) n = refl
-
-pub order-unseen : OrderUnseen
-order-unseen clock c n m same =
-    rw (← (in-first-free clock c n), ← (in-first-free clock c m))
-    (layout-unseen firstFree firstFree first-free-fills first-free-fills clock c n m same)
 
 -- the histories of calls as they are
 module _ (clock : Clock) where
@@ -183,12 +163,6 @@ module _ (clock : Clock) where
   as-after [] n = refl
   as-after (c ∷ cs) n = as-after cs (outcome clock c n .node)
 
-pub order-never-seen : OrderNeverSeen
-order-never-seen clock calls n m same =
-    rw (← (as-answers clock calls n), ← (as-answers clock calls m), ← (as-after clock calls n), ← (as-after clock calls m))
-    (in-every-history (outcome clock) (outcome clock) SameSlots
-    (λ c n m same. let o = order-unseen clock c n m same in (o .answer, o .node)) calls n m same)
-
 -- ── from the fresh node ──
 pub same-fresh : SameSlots fresh fresh
 same-fresh =
@@ -197,6 +171,3 @@ same-fresh =
       slots = Permᴰ·refl (fresh .slots);
       counter = refl;
     }
-
-pub always-settled : AlwaysSettled
-always-settled clock calls = order-never-seen clock calls fresh fresh same-fresh .1 .settled

@@ -1,24 +1,15 @@
 -- A slot put in its place takes that of a free one.
-use Prim.Native.Nat.{ℕ, zero, suc, _<_}
-use native.Mathlib.Omega.{arith}
-use mathlib.Core.Path.{_≡_, refl, sym, subst}
+use mathlib.Core.Path.{_≡_, refl}
 use mathlib.Core.Bool.{Bool, true, false, cond}
-use mathlib.Core.List.{List, [], _∷_, map, List·Permᴰ, List·Permᴰ·cons, List·Permᴰ·swap, List·Permᴰ·trans, Permᴰ·refl}
+use mathlib.Core.List.{List, [], _∷_, List·Permᴰ, List·Permᴰ·cons, List·Permᴰ·swap, List·Permᴰ·trans, Permᴰ·refl}
 use lib.Dec.{ltb}
-use lib.ListN.{replicate}
-use borrow.Author.Tests.{ltb-true, ltb-false, eqb-false, not-true, not-false}
-use Rattle.wire.specs.declared.ids.Stream.{Stream}
-use Rattle.wire.specs.declared.settings.Settings.{Settings}
 use Rattle.node.specs.declared.slots.Slot.{Slot}
-use Rattle.node.specs.Slots.{empty, slotFor, isFree, isOf, onFirst, some}
-use Rattle.node.specs.Reachable.{All}
-use Rattle.node.specs.SlotOrder.{firstFree, Fills}
-use Rattle.node.specs.StreamOrder.{After, InOrder, inPlace}
-use Rattle.node.proofs.Choices.{contrary, neither}
-use Rattle.node.proofs.slots.Table.{all-map, all-weaken, all-replicate, all-on-first}
-use Rattle.node.proofs.slots.Streams.{Kind, kindOf, KeepsKind}
+use Rattle.node.specs.Slots.{isFree, onFirst, some}
+use Rattle.node.specs.SetUp.{inPlace}
+use Rattle.node.specs.OldLayout.{firstFree}
+use Rattle.node.specs.SlotOrder.{Fills}
+use Rattle.node.proofs.Choices.{contrary}
 
--- ── it takes the place of a free one ──
 -- which of two slots takes the free place and which stands in front makes no difference
 either-in-front : (x y : Slot) (zs : List Slot) → some isFree zs ≡ true → List·Permᴰ (x ∷ firstFree y zs) (y ∷ firstFree x zs)
 unfolding some onFirst

@@ -8,14 +8,14 @@ use mathlib.Core.List.{List, [], _∷_, _++_, List·Permᴰ, List·Permᴰ·nil,
 use Rattle.node.specs.declared.slots.Slot.{Slot}
 use Rattle.node.specs.Slots.{isOf, some}
 use Rattle.node.specs.Clock.{Clock}
-use Rattle.node.specs.Tick.{due, place, ageOf, dueSlots}
-use Rattle.node.specs.Reachable.{Distinct}
-use Rattle.node.specs.NextFrame.{pendingIn, pendingIds}
-use Rattle.node.specs.Selection.{lowestOrAbove}
+use Rattle.node.specs.Tick.{due, ageOf}
+use Rattle.node.specs.NextFrame.{pendingIn}
+use Rattle.node.specs.OldLayout.{place, dueByStream, pendingIds}
+use Rattle.node.specs.SlotOrder.{Distinct}
 use Rattle.node.proofs.Choices.{neither}
 use Rattle.node.proofs.tick.Tests.{due-tells}
-use Rattle.node.proofs.tick.Placed.{Compared, below, equal, above, compared, placed-before, placed-instead, placed-after}
-use Rattle.node.proofs.next_frame.Lowest.{lowest-append}
+use Rattle.node.proofs.slot_order.Placed.{Compared, below, equal, above, compared, placed-before, placed-instead, placed-after}
+use Rattle.node.proofs.next_frame.Lowest.{lowestOrAbove, lowest-append}
 use Rattle.node.proofs.slot_order.Settled.{distinct-reordered}
 
 -- ── two slots placed, in either order ──
@@ -66,14 +66,14 @@ module _ (clock : Clock) (now : ℕ) where
   abbrev isDue : Slot → Bool
   isDue x = due (ageOf clock now x) x
 
-  pub due-reordered : {xs ys : List Slot} → List·Permᴰ xs ys → Distinct xs → dueSlots clock now xs ≡ dueSlots clock now ys
-  unfolding dueSlots some
+  pub due-reordered : {xs ys : List Slot} → List·Permᴰ xs ys → Distinct xs → dueByStream clock now xs ≡ dueByStream clock now ys
+  unfolding dueByStream some
   due-reordered List·Permᴰ·nil ds = refl
   due-reordered (List·Permᴰ·cons e d) ds = rw (e, due-reordered d (ds .1))
   due-reordered (List·Permᴰ·swap {a} {b} {l = l} e₁ e₂) ds = rw (← e₁, ← e₂) (arm (isDue a) (isDue b) refl refl)
     where
       rest : List Slot
-      rest = dueSlots clock now l
+      rest = dueByStream clock now l
 
       apart : isDue a ≡ true → isDue b ≡ true → a .stream .0 ≡ b .stream .0 → ⊥
       apart p q same =

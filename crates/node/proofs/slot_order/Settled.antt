@@ -10,8 +10,8 @@ use Rattle.node.specs.declared.slots.Slot.{Slot}
 use Rattle.node.specs.Slots.{empty, slotFor, isFree, isOf, onFirst, some}
 use Rattle.node.specs.Clock.{Clock}
 use Rattle.node.specs.Tick.{late, due, holdOver, lapsed, ageOf, tickSlot}
-use Rattle.node.specs.Reachable.{All, Distinct}
-use Rattle.node.specs.SlotOrder.{Settled}
+use Rattle.node.specs.Reachable.{All}
+use Rattle.node.specs.SlotOrder.{Distinct, Settled}
 use Rattle.node.proofs.Choices.{contrary, neither}
 use Rattle.node.proofs.slots.Table.{all-map, all-weaken, all-on-first}
 use Rattle.node.proofs.slots.Streams.{Kind, KeepsKind, lapsed-keeps, distinct-map, distinct-on-first, distinct-set-up}

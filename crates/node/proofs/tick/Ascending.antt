@@ -1,19 +1,18 @@
 -- The records of a tick: by ascending stream, of each stream what its slot holds, if that is due.
 use Prim.Native.Nat.{ℕ, _<_}
-use native.Mathlib.Omega.{arith}
 use mathlib.Core.Path.{_≡_, refl, sym, ap, _∙_}
-use mathlib.Core.Bool.{Bool, true, false, cond, and-false, and-eq-true-iff}
+use mathlib.Core.Bool.{Bool, true, false, cond, and-eq-true-iff}
 use mathlib.Core.List.{List, [], _∷_}
-use lib.Dec.{eqb, ltb}
-use borrow.Author.Tests.{ltb-true, ltb-false, eqb-true, eqb-false, ne-eqb}
+use borrow.Author.Tests.{eqb-true}
 use Rattle.wire.specs.declared.ids.Stream.{Stream}
 use Rattle.node.specs.declared.slots.Slot.{Slot}
 use Rattle.node.specs.Slots.{empty, isOf, first}
 use Rattle.node.specs.Clock.{Clock}
-use Rattle.node.specs.Tick.{due, place, ageOf, dueSlots}
-use Rattle.node.specs.Reachable.{All, Distinct}
+use Rattle.node.specs.Tick.{due, ageOf, dueSlots}
+use Rattle.node.specs.Reachable.{All, After, InOrder}
+use Rattle.node.specs.SlotOrder.{Distinct}
 use Rattle.node.proofs.Choices.{either-way}
-use Rattle.node.proofs.slots.Table.{none-first, all-weaken}
+use Rattle.node.proofs.slots.Table.{none-first}
 use Rattle.node.proofs.tick.Tests.{Due, due-tells}
 
 abbrev pub Before : Slot → Slot → Type 0
@@ -24,38 +23,25 @@ abbrev pub Ascends : List Slot → Type 0
 Ascends [] = Unit {0}
 Ascends (x ∷ xs) = All (Before x) xs × Ascends xs
 
-pub all-place : (P : Slot → Type 0) (x : Slot) → P x → (ys : List Slot) → All P ys → All P (place x ys)
-all-place P x p [] ps = (p, tt)
-all-place P x p (y ∷ ys) ps = by-order (ltb (y .stream .0) (x .stream .0)) (eqb (x .stream .0) (y .stream .0)) (all-place P x p ys (ps .1))
-  where
-    by-order : (l e : Bool) → All P (place x ys) → All P (cond l (y ∷ place x ys) (cond e (x ∷ ys) (x ∷ y ∷ ys)))
-    by-order true e rest = (ps .0, rest)
-    by-order false true rest = (p, ps .1)
-    by-order false false rest = (p, ps)
-
-place-ascends : (x : Slot) (ys : List Slot) → Ascends ys → Ascends (place x ys)
-place-ascends x [] a = (tt, tt)
-place-ascends x (y ∷ ys) a =
-    by-order (ltb (y .stream .0) (x .stream .0)) (eqb (x .stream .0) (y .stream .0)) refl refl (place-ascends x ys (a .1))
-  where
-    by-order : (l e : Bool) → ltb (y .stream .0) (x .stream .0) ≡ l → eqb (x .stream .0) (y .stream .0) ≡ e → Ascends (place x ys)
-        → Ascends (cond l (y ∷ place x ys) (cond e (x ∷ ys) (x ∷ y ∷ ys)))
-    by-order true e el ee rest = (all-place (Before y) x (ltb-true _ _ el) ys (a .0), rest)
-    by-order false true el ee rest =
-        let same = eqb-true (x .stream .0) (y .stream .0) ee in
-        (all-weaken (Before y) (Before x) (λ z b. omega arith) ys (a .0), a .1)
-    by-order false false el ee rest =
-        let below : Before x y = omega (arith, ltb-false (y .stream .0) (x .stream .0) el, eqb-false (x .stream .0) (y .stream .0) ee) in
-        ((below, all-weaken (Before y) (Before x) (λ z b. omega arith) ys (a .0)), a)
-
 module _ (clock : Clock) (now : ℕ) where
-  pub due-ascend : (xs : List Slot) → Ascends (dueSlots clock now xs)
+  -- what is due of the slots that may stand after x
+  pub later-due : (x : Slot) (ys : List Slot) → All (After x) ys → All (Before x) (dueSlots clock now ys)
   unfolding dueSlots
-  due-ascend [] = tt
-  due-ascend (x ∷ xs) = by-due (due (ageOf clock now x) x) (due-ascend xs)
+  later-due x [] later = tt
+  later-due x (y ∷ ys) later = by-due (due (ageOf clock now y) y) refl (later-due x ys (later .1))
     where
-      by-due : (d : Bool) → Ascends (dueSlots clock now xs) → Ascends (cond d (place x (dueSlots clock now xs)) (dueSlots clock now xs))
-      by-due true a = place-ascends x (dueSlots clock now xs) a
+      by-due : (d : Bool) → due (ageOf clock now y) y ≡ d → All (Before x) (dueSlots clock now ys)
+          → All (Before x) (cond d (y ∷ dueSlots clock now ys) (dueSlots clock now ys))
+      by-due true e rest = (later .0 (due-tells (ageOf clock now y) y .says e .used) .1, rest)
+      by-due false e rest = rest
+
+  pub due-ascend : (xs : List Slot) → InOrder xs → Ascends (dueSlots clock now xs)
+  unfolding dueSlots
+  due-ascend [] h = tt
+  due-ascend (x ∷ xs) h = by-due (due (ageOf clock now x) x) (due-ascend xs (h .1))
+    where
+      by-due : (d : Bool) → Ascends (dueSlots clock now xs) → Ascends (cond d (x ∷ dueSlots clock now xs) (dueSlots clock now xs))
+      by-due true a = (later-due x xs (h .0), a)
       by-due false a = a
 
   -- each is due
@@ -68,45 +54,11 @@ module _ (clock : Clock) (now : ℕ) where
       IsDue y = Due (ageOf clock now y) y
 
       by-due : (d : Bool) → due (ageOf clock now x) x ≡ d → All IsDue (dueSlots clock now xs)
-          → All IsDue (cond d (place x (dueSlots clock now xs)) (dueSlots clock now xs))
-      by-due true e ps = all-place IsDue x (due-tells (ageOf clock now x) x .says e) (dueSlots clock now xs) ps
+          → All IsDue (cond d (x ∷ dueSlots clock now xs) (dueSlots clock now xs))
+      by-due true e ps = (due-tells (ageOf clock now x) x .says e, ps)
       by-due false e ps = ps
 
 -- ── of each stream ──
-not-of : (s : Stream) (x : Slot) → eqb (x .stream .0) (s .0) ≡ false → isOf s x ≡ false
-not-of s x other = rw other (and-false (x .used))
-
--- another stream's slot is not seen
-first-other : (s : Stream) (x : Slot) → eqb (x .stream .0) (s .0) ≡ false → (ys : List Slot) → first (isOf s) (place x ys) ≡ first (isOf s) ys
-unfolding first
-first-other s x other [] = rw (not-of s x other)
-first-other s x other (y ∷ ys) =
-    by-order (ltb (y .stream .0) (x .stream .0)) (eqb (x .stream .0) (y .stream .0)) refl (first-other s x other ys)
-  where
-    by-order : (l e : Bool) → eqb (x .stream .0) (y .stream .0) ≡ e → first (isOf s) (place x ys) ≡ first (isOf s) ys
-        → first (isOf s) (cond l (y ∷ place x ys) (cond e (x ∷ ys) (x ∷ y ∷ ys))) ≡ first (isOf s) (y ∷ ys)
-    by-order true e ee rest = ap (λ (z : Slot). cond (isOf s y) y z) rest
-    by-order false true ee rest =
-        let other-y : eqb (y .stream .0) (s .0) ≡ false = ap (λ i. eqb i (s .0)) (sym (eqb-true _ _ ee)) ∙ other in
-        rw (not-of s x other, not-of s y other-y)
-    by-order false false ee rest = rw (not-of s x other)
-
--- a slot that was placed is found
-first-placed : (s : Stream) (x : Slot) → isOf s x ≡ true → (ys : List Slot) → first (isOf s) (place x ys) ≡ x
-unfolding first
-first-placed s x here [] = rw here
-first-placed s x here (y ∷ ys) =
-    by-order (ltb (y .stream .0) (x .stream .0)) (eqb (x .stream .0) (y .stream .0)) refl (first-placed s x here ys)
-  where
-    by-order : (l e : Bool) → ltb (y .stream .0) (x .stream .0) ≡ l → first (isOf s) (place x ys) ≡ x
-        → first (isOf s) (cond l (y ∷ place x ys) (cond e (x ∷ ys) (x ∷ y ∷ ys))) ≡ x
-    by-order true e el rest =
-        let same = eqb-true (x .stream .0) (s .0) (and-eq-true-iff (x .used) _ .0 here .1) in
-        let below = ltb-true (y .stream .0) (x .stream .0) el in
-        rw (not-of s y (ne-eqb (y .stream .0) (s .0) (λ e. omega arith))) rest
-    by-order false true el rest = rw here
-    by-order false false el rest = rw here
-
 module _ (clock : Clock) (now : ℕ) (s : Stream) where
   abbrev pub ifDue : Slot → Slot
   ifDue x = cond (due (ageOf clock now x) x) x empty
@@ -131,9 +83,8 @@ module _ (clock : Clock) (now : ℕ) (s : Stream) where
           none-first (isOf s) xs (rw same at (ds .0 (h .0)))
 
       by-slot : (o d : Bool) → isOf s x ≡ o → due (ageOf clock now x) x ≡ d → first (isOf s) rest ≡ ifDue (first (isOf s) xs)
-          → first (isOf s) (cond d (place x rest) rest) ≡ ifDue (cond o x (first (isOf s) xs))
-      by-slot true true eo ed below = first-placed s x eo rest ∙ sym (ap (λ (b : Bool). cond b x empty) ed)
+          → first (isOf s) (cond d (x ∷ rest) rest) ≡ ifDue (cond o x (first (isOf s) xs))
+      by-slot true true eo ed below = rw (eo, ed)
       by-slot true false eo ed below = below ∙ (ap ifDue (alone eo) ∙ (none-due ∙ sym (ap (λ (b : Bool). cond b x empty) ed)))
-      by-slot false true eo ed below =
-          first-other s x (rw (due-tells (ageOf clock now x) x .says ed .used) at eo) rest ∙ below
+      by-slot false true eo ed below = rw eo below
       by-slot false false eo ed below = below

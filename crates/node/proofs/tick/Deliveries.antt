@@ -19,12 +19,12 @@ use Rattle.node.specs.Slots.{isOf, first, onFirst, some}
 use Rattle.node.specs.Clock.{Clock, rolled}
 use Rattle.node.specs.SetUp.{setUp}
 use Rattle.node.specs.Hear.{hearRoom, hear, heardBy, deliveredAtOnce}
-use Rattle.node.specs.Tick.{tickRoom, late, due, holdOver, lapsed, place, ageOf, dueSlots, recordsFrom, tick}
+use Rattle.node.specs.Tick.{tickRoom, late, due, holdOver, lapsed, ageOf, dueSlots, recordsFrom, tick}
 use Rattle.node.specs.Calls.{Call, outcome, after}
 use Rattle.node.specs.Reachable.{Distinct}
 use Rattle.node.proofs.Choices.{neither}
 use Rattle.node.proofs.tick.Tests.{due-tells}
-use Rattle.node.proofs.tick.Placed.{Compared, below, equal, above, compared, placed-before, placed-instead, placed-after}
+use Rattle.node.proofs.slot_order.Placed.{Compared, below, equal, above, compared, placed-before, placed-instead, placed-after}
 
 -- ── a slot that was placed ──
 in-placed : (x : Slot) (l : List Slot) → List·Memᴰ x (place x l)

@@ -7,7 +7,7 @@ use native.Mathlib.Omega.{arith}
 use borrow.Author.Tests.{lt-ltb, le-ltb, eq-eqb, ne-eqb, ltb-true, ltb-false}
 use lib.Dec.{ltb}
 use Rattle.node.specs.declared.slots.Slot.{Slot}
-use Rattle.node.specs.Tick.{place}
+use Rattle.node.specs.OldLayout.{place}
 
 pub data Compared (a b : ℕ) : Type 0 where
   below : a < b → Compared a b

@@ -1,0 +1,123 @@
+-- On slots in stream order the first slot with a frame pending has the lowest of all.
+use Prim.Native.Nat.{ℕ, _+_, _/_, _≤_, _<_, min}
+use native.Mathlib.Omega.{arith}
+use mathlib.Core.Path.{_≡_, refl, sym, ap, _∙_}
+use mathlib.Core.Bool.{Bool, true, false, cond, not, and-eq-true-iff}
+use mathlib.Core.Logic.{⊎-elim}
+use mathlib.Core.List.{List, [], _∷_, _++_, List·Memᴰ, List·Memᴰ·head, List·Memᴰ·not-nil, List·Memᴰ·append-cases}
+use borrow.Author.Tests.{eqb-true, ne-eqb, leb-true, leb-false, not-true}
+use lib.Dec.{leb}
+use Rattle.wire.specs.declared.ids.Stream.{Stream}
+use Rattle.wire.specs.Identifiers.{maxBusId, streamOf, codeOf}
+use Rattle.node.specs.declared.slots.Slot.{Slot}
+use Rattle.node.specs.declared.Node.{Node}
+use Rattle.node.specs.Slots.{empty, isOf, first, onFirst, some}
+use Rattle.node.specs.NextFrame.{pendingIn, isNone, lowest, givenOut, hasFrame, lowestFrame, lowestGiven, give, nextFrame}
+use Rattle.node.specs.OldLayout.{pendingIds, giveById, nextById}
+use Rattle.node.specs.Reachable.{All, After, InOrder}
+use Rattle.node.proofs.Choices.{contrary}
+use Rattle.node.proofs.slots.Table.{all-first}
+use Rattle.node.proofs.next_frame.Lowest.{lowestOrAbove, lowest-at-most, lowest-append, none-lower, lowest-is-one, pending-from-slot, by-lowest, next-by-lowest}
+
+from-later : (x : Slot) (ys : List Slot) → All (After x) ys → {i : ℕ} → List·Memᴰ i (pendingIds ys) → x .stream .0 < i / 4
+unfolding pendingIds
+from-later x [] later m = absurd (List·Memᴰ·not-nil m)
+from-later x (y ∷ ys) later {i} m =
+    ⊎-elim
+    (λ (here : List·Memᴰ i (pendingIn y)).
+    let of-stream = and-eq-true-iff (y .used) _ .0 (pending-from-slot y here .of-stream) in
+    omega (arith, later .0 (of-stream .0) .1, eqb-true (y .stream .0) (i / 4) (of-stream .1)))
+    (λ (there : List·Memᴰ i (pendingIds ys)). from-later x ys (later .1) there)
+    (List·Memᴰ·append-cases (pendingIn y) m)
+
+-- the lowest of a slot's is below all those of later slots
+lowest-here : (x : Slot) (ys : List Slot) → All (After x) ys → isNone (pendingIn x) ≡ false
+    → lowestOrAbove (pendingIn x) ≤ lowestOrAbove (pendingIds ys)
+lowest-here x ys later pending = go (pendingIn x) refl pending (leb (lowestOrAbove (pendingIds ys)) maxBusId) refl
+  where
+    go : (ids : List ℕ) → pendingIn x ≡ ids → isNone ids ≡ false → (t : Bool) → leb (lowestOrAbove (pendingIds ys)) maxBusId ≡ t
+        → lowestOrAbove (pendingIn x) ≤ lowestOrAbove (pendingIds ys)
+    go [] e some t p = contrary refl some
+    go (i ∷ is) e some true p =
+        let one : List·Memᴰ i (pendingIn x) = rw e (List·Memᴰ·head refl) in
+        let stream = eqb-true (x .stream .0) (i / 4) (and-eq-true-iff (x .used) _ .0 (pending-from-slot x one .of-stream) .1) in
+        let small = leb-true (lowestOrAbove (pendingIds ys)) maxBusId p in
+        omega (arith, none-lower (pendingIn x) one, stream, from-later x ys later (lowest-is-one (pendingIds ys) small))
+    go (i ∷ is) e some false p = omega (arith, lowest-at-most (pendingIn x), leb-false (lowestOrAbove (pendingIds ys)) maxBusId p)
+
+none-below : (ids : List ℕ) (low : ℕ) → isNone ids ≡ true → low ≤ maxBusId + 1 → min (lowestOrAbove ids) low ≡ low
+unfolding lowestOrAbove
+none-below [] low none small = omega arith
+none-below (i ∷ is) low none small = contrary none refl
+
+lowest-in-order : (xs : List Slot) → InOrder xs → lowestOrAbove (pendingIn (first hasFrame xs)) ≡ lowestOrAbove (pendingIds xs)
+unfolding pendingIds first
+lowest-in-order [] h = none-pending
+  where
+    none-pending : lowestOrAbove (pendingIn empty) ≡ lowestOrAbove []
+    unfolding pendingIn
+    none-pending = refl
+lowest-in-order (x ∷ xs) h = rw (lowest-append (pendingIn x) (pendingIds xs)) (arm (isNone (pendingIn x)) refl (lowest-in-order xs (h .1)))
+  where
+    later : Slot
+    later = first hasFrame xs
+
+    arm : (t : Bool) → isNone (pendingIn x) ≡ t → lowestOrAbove (pendingIn later) ≡ lowestOrAbove (pendingIds xs)
+        → lowestOrAbove (pendingIn (cond (not t) x later)) ≡ min (lowestOrAbove (pendingIn x)) (lowestOrAbove (pendingIds xs))
+    unfolding later
+    arm true e ih = ih ∙ sym (none-below (pendingIn x) (lowestOrAbove (pendingIds xs)) e (lowest-at-most (pendingIds xs)))
+    arm false e ih = omega (arith, lowest-here x xs (h .0) e)
+
+-- ── the slot that gives it out is that of its stream ──
+module _ (test : Slot → Bool) (s : Stream) where
+  pub record OfStream (xs : List Slot) : Type 0 where
+    pub found : first (isOf s) xs ≡ first test xs
+    pub changed : (f : Slot → Slot) → onFirst (isOf s) f xs ≡ onFirst test f xs
+
+  of-stream : (xs : List Slot) → InOrder xs → isOf s (first test xs) ≡ true → OfStream xs
+  unfolding first onFirst
+  of-stream [] h own = contrary own refl
+  of-stream (x ∷ xs) h own = arm (test x) refl own (of-stream xs (h .1))
+    where
+      earlier : isOf s (first test xs) ≡ true → isOf s x ≡ false
+      earlier later-own =
+          let y = first test xs in
+          let (used, stream) = and-eq-true-iff (y .used) _ .0 later-own in
+          let after = all-first (After x) test (λ u. contrary u refl) xs (h .0) used in
+          rw (after .0, ne-eqb (x .stream .0) (s .0) (omega (arith, after .1, eqb-true (y .stream .0) (s .0) stream)))
+
+      arm : (t : Bool) → test x ≡ t → isOf s (cond t x (first test xs)) ≡ true → (isOf s (first test xs) ≡ true → OfStream xs)
+          → OfStream (x ∷ xs)
+      arm true e own-x rest = record { found = rw (own-x, e); changed = λ f. rw (own-x, e) }
+      arm false e own-later rest =
+          let r = rest own-later in
+          record { found = rw (earlier own-later, e) (r .found); changed = λ f. rw (earlier own-later, e, r .changed f) }
+
+-- only the slot that is found is changed
+same-change : (test : Slot → Bool) (f g : Slot → Slot) (xs : List Slot) → f (first test xs) ≡ g (first test xs) → onFirst test f xs ≡ onFirst test g xs
+unfolding first onFirst
+same-change test f g [] e = refl
+same-change test f g (x ∷ xs) e = arm (test x) e (same-change test f g xs)
+  where
+    arm : (t : Bool) → f (cond t x (first test xs)) ≡ g (cond t x (first test xs))
+        → (f (first test xs) ≡ g (first test xs) → onFirst test f xs ≡ onFirst test g xs)
+        → cond t (f x ∷ xs) (x ∷ onFirst test f xs) ≡ cond t (g x ∷ xs) (x ∷ onFirst test g xs)
+    arm true e rest = rw e
+    arm false e rest = rw (rest e)
+
+module _ (n : Node) where
+  abbrev giver : Slot
+  giver = first hasFrame (n .slots)
+
+  lowest-of-giver : hasFrame giver ≡ true → List·Memᴰ (lowest (pendingIn giver)) (pendingIn giver)
+  lowest-of-giver h = lowest-among (pendingIn giver) (not-true _ h)
+
+  give-in-order : InOrder (n .slots) → hasFrame giver ≡ true → give n ≡ giveById (lowestFrame giver) n
+  unfolding give giveById
+  give-in-order h frame =
+      let id = lowestFrame giver in
+      let own = of-stream hasFrame (streamOf id) (n .slots) h (pending-from-slot giver (lowest-of-giver frame) .of-stream) in
+      rw (own .found, own .changed (givenOut (codeOf id)), same-change hasFrame lowestGiven (givenOut (codeOf id)) (n .slots) refl)
+
+pub next-in-order : (output : List ℕ) (n : Node) → InOrder (n .slots) → nextFrame output n ≡ nextById output n
+next-in-order output n h = ?
