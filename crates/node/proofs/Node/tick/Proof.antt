@@ -1,0 +1,141 @@
+-- `Node::tick` meets its contract. The loop goes up through the slots, with those passed lapsed and their records written: a slot
+-- that is due lapses and has its record written, another that stirs lapses, and the others stay.
+use borrow.Author.Needs.{needs}
+use native.Mathlib.Omega.{arith}
+use mathlib.Core.Path.{_≡_, sym, _∙_}
+use Prim.Native.Nat.{_+_, _-_, _≤_}
+use lib.ListN.{length}
+use Rattle.node.specs.Nodes.{slotCount}
+use Rattle.node.specs.Hear.{hearRoom}
+use Rattle.node.specs.Clock.{rolled}
+use Rattle.node.proofs.slots.Finding.{noSlot, length-of-mapped}
+use Rattle.node.proofs.tick.Stirring.{young-is-still, still-is-not-due, due-stirs}
+use Rattle.node.proofs.tick.OnePass.{Lapsing, lapsing-at-first, all-lapsed, slot-as-it-was, one-stays, one-lapses}
+use Rattle.node.proofs.tick.OnePass.{Writing, writing-at-first, all-written, writing-keeps-length, has-room, written-is-small}
+use Rattle.node.proofs.tick.OnePass.{one-is-not-due, one-is-written}
+use Rattle.node.proofs.tick.Ways.{exact-and-unbounded, tick-refused, tick-done}
+use Rattle.node.proofs.Node.tick.Statement.{statement}
+use Rattle.node.proofs.Node.tick.Tie as tie
+
+abbrev Inv-loop : tie.InvT-loop
+Inv-loop out₀ self₀ now at₀ passed₀ out self at passed =
+    (passed ≤ slotCount) × Lapsing rolled now self₀ self passed × Writing rolled now (self₀ .slots) out₀ out passed at
+
+abbrev μ-loop : tie.MeasureT-loop
+μ-loop out₀ self₀ now at₀ passed₀ out self at passed = slotCount - passed
+
+-- ── refused ──
+returns : tie.Need-returns Inv-loop μ-loop
+returns c = exact-and-unbounded _ _ _ _ (tick-refused rolled _ _ (omega arith))
+
+-- ── the slots ──
+loop-holds : tie.Need-loop-holds Inv-loop μ-loop
+loop-holds c =
+    let many : length (c .before .before .before .args .t1 .slots) ≡ slotCount = search (length-of-mapped, needs) in
+    (omega arith, lapsing-at-first rolled _ _ many, writing-at-first rolled _ _ _ many (omega arith))
+
+-- the longest record fits behind those that are written
+room : (c : tie.In-loop Inv-loop μ-loop) → c .before .loop .at + hearRoom ≤ length (c .before .loop .out)
+room c = has-room (c .before .loop .inv .2) noSlot (c .loop-test .taken)
+
+add-at : tie.Need-add-at Inv-loop μ-loop
+add-at c =
+    let d = c .before .before .before .before .before .before .before .before .before .before .before .before .before .before in
+    let l = d .before .loop .inv in
+    let bytes = c .before .before .before .before .all-bytes .ensures in
+    let wrote = c .before .before .write-record .ensures in
+    let same = slot-as-it-was (l .1) noSlot (d .loop-test .taken) in
+    omega (arith, room d, written-is-small (l .2) noSlot (d .loop-test .taken) _ same _ (c .before .before .before .before .before .before .before .before .before .before .before .before .age .ensures) _ bytes _ (wrote .0))
+
+loop-again : tie.Need-loop-again Inv-loop μ-loop
+loop-again c =
+    let d = c .before .before .before .before .before .before .before .before .before .before .before .before .before .before in
+    let h = d .loop-test .taken in
+    let l = d .before .loop .inv in
+    let age = c .before .before .before .before .before .before .before .before .before .before .before .before .age .ensures in
+    let due = sym (c .before .before .before .before .before .before .before .before .due .ensures) ∙ c .before .before .before .before .before .before .before .if3 .taken in
+    let same = slot-as-it-was (l .1) noSlot h in
+    (omega arith, one-lapses (l .1) noSlot h _ age (due-stirs _ _ due) _ (c .before .before .before .before .before .before .stirred .ensures),
+    one-is-written (l .2) noSlot h _ same _ age _ (c .before .before .before .before .all-bytes .ensures) due _ _ (c .before .before .write-record .ensures))
+
+loop-again-2 : tie.Need-loop-again-2 Inv-loop μ-loop
+loop-again-2 c =
+    let d = c .before .before .before .before .before .before .before .before .before .before in
+    let h = d .loop-test .taken in
+    let l = d .before .loop .inv in
+    let age = c .before .before .before .before .before .before .before .before .age .ensures in
+    let stirs = sym (c .before .before .stirs .ensures) ∙ c .before .if4 .taken in
+    let not-due = sym (c .before .before .before .before .due .ensures) ∙ c .before .before .before .if3 .left in
+    (omega arith, one-lapses (l .1) noSlot h _ age stirs _ (c .stirred2 .ensures), one-is-not-due (l .2) noSlot h _ (slot-as-it-was (l .1) noSlot h) _ age not-due)
+
+loop-again-3 : tie.Need-loop-again-3 Inv-loop μ-loop
+loop-again-3 c =
+    let d = c .before .before .before .before .before .before .before .before .before in
+    let h = d .loop-test .taken in
+    let l = d .before .loop .inv in
+    let age = c .before .before .before .before .before .before .before .age .ensures in
+    let still = sym (c .before .stirs .ensures) ∙ c .if4 .left in
+    (omega arith, one-stays (l .1) noSlot h _ age still,
+    one-is-not-due (l .2) noSlot h _ (slot-as-it-was (l .1) noSlot h) _ age (still-is-not-due _ _ still))
+
+loop-again-4 : tie.Need-loop-again-4 Inv-loop μ-loop
+loop-again-4 c =
+    let d = c .before .before .before .before in
+    let h = d .loop-test .taken in
+    let l = d .before .loop .inv in
+    let age = c .before .before .age .ensures in
+    let still = young-is-still _ _ (sym (c .before .may-stir .ensures) ∙ c .if2 .left) in
+    (omega arith, one-stays (l .1) noSlot h _ age still,
+    one-is-not-due (l .2) noSlot h _ (slot-as-it-was (l .1) noSlot h) _ age (still-is-not-due _ _ still))
+
+-- ── done ──
+same-length : tie.Need-same-length Inv-loop μ-loop
+same-length c = let l = c .before .loop .inv in writing-keeps-length (l .2) (l .0)
+
+returns-2 : tie.Need-returns-2 Inv-loop μ-loop
+returns-2 c =
+    let l = c .before .loop .inv in
+    let node = all-lapsed (l .1) (c .loop-test .left) in
+    let records = all-written (l .2) (c .loop-test .left) in
+    exact-and-unbounded _ _ _ _ (tick-done rolled _ _ (omega arith) _ (c .before .before .next .ensures) _ _ _ node records)
+
+pub tick-spec : {M : Type 1} → statement M
+tick-spec =
+    tie.close
+    (tie.spec
+    Inv-loop
+    μ-loop
+    returns
+    (λ c κs. search needs)
+    loop-holds
+    (λ c. search needs)
+    (λ c. search needs)
+    (λ c. search needs)
+    (λ c κs. search needs)
+    (λ c κs. search needs)
+    (λ c. search needs)
+    (λ c. search needs)
+    (λ c κs. search needs)
+    (λ c κs. search needs)
+    (λ c. search needs)
+    (λ c. search needs)
+    (λ c κs. search needs)
+    (λ c. omega (arith, room (c .before .before .before .before .before .before .before .before .before .before)))
+    (λ c. omega (arith, room (c .before .before .before .before .before .before .before .before .before .before)))
+    (λ c. search needs)
+    (λ c κs. search needs)
+    add-at
+    (λ c. search needs)
+    loop-again
+    (λ c κs. search needs)
+    (λ c κs. search needs)
+    (λ c. search needs)
+    (λ c. search needs)
+    (λ c. search needs)
+    loop-again-2
+    (λ c. search needs)
+    loop-again-3
+    (λ c. search needs)
+    loop-again-4
+    same-length
+    returns-2)
