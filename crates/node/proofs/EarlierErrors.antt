@@ -16,6 +16,7 @@ use Rattle.node.specs.Slots.{noMessage, holding, restamped, abortPending
 use Rattle.node.specs.Clock.{Clock, period, rolled}
 use Rattle.node.specs.Hear.{clashes, heardBy, hear}
 use Rattle.node.specs.Tick.{late, due, holdOver, lapsed, ageOf, tickSlot, dueSlots, ticked}
+use Rattle.node.specs.Calls.{Call, after}
 use Rattle.node.proofs.Choices.{contrary, refuted}
 use Rattle.node.proofs.Cases.{by-case}
 use Rattle.node.proofs.hear.Cases.{hear-cases}
@@ -23,6 +24,7 @@ use Rattle.node.proofs.slots.Streams.{heard-keeps, slot-of-changed, slo
 use Rattle.node.proofs.tick.Tests.{Late, late-tells, due-tells, hold-over-tells}
 use Rattle.node.proofs.tick.Ascending.{Ascends, due-ascend}
 use Rattle.node.proofs.kept.EachSlot.{imd-not-two, not-sender}
+use Rattle.node.proofs.slot_order.InStreamOrder.{stream-order-unseen}
 
 -- ── delivering on age alone ──
 -- an unconfirmed 2M message is not due at any age
@@ -115,5 +117,5 @@ lapsed-by-age k x small few = rw (age-counts (x .message .stamp) k small few)
 
 -- ── delivering in slot order ──
 -- a tick's records ascend by stream, in whatever order the slots were set up
-pub records-ascend : (clock : Clock) (n : Node) → Ascends (dueSlots clock (clock .next (n .counter)) (n .slots))
-records-ascend clock n = due-ascend clock (clock .next (n .counter)) (n .slots)
+pub records-ascend : (clock : Clock) (h : List Call) → let n = after clock h in Ascends (dueSlots clock (clock .next (n .counter)) (n .slots))
+records-ascend clock h = let n = after clock h in due-ascend clock (clock .next (n .counter)) (n .slots) (stream-order-unseen clock h .in-order)

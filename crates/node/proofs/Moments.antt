@@ -13,7 +13,7 @@ use Rattle.node.specs.declared.Node.{Node}
 use Rattle.node.specs.Slots.{slotFor, empty, sameBytes, first, onFirst, some}
 use Rattle.node.specs.Nodes.{fresh, Outcome}
 use Rattle.node.specs.Clock.{Clock, period, unbounded, rolled}
-use Rattle.node.specs.SetUp.{inPlace, setUp}
+use Rattle.node.specs.SetUp.{lessFree, inPlace, setUp}
 use Rattle.node.specs.Hear.{hear, heardBy, deliveredAtOnce}
 use Rattle.node.specs.Tick.{tick, late, due, holdOver, lapsed, dueSlots, recordsFrom}
 use Rattle.node.specs.Request.{request, requested}
@@ -47,7 +47,7 @@ startNode (receiving n) = idleNode receive n
 startNode (sending n) = idleNode send n
 
 started : (start : Start) → after unbounded (callsTo start) ≡ startNode start
-unfolding setUp inPlace legal onFirst some
+unfolding setUp lessFree inPlace legal onFirst some
 started from-fresh = refl
 started (receiving n) = receiver-idles n 0 ∙ ap (idleNode receive) (omega arith)
 started (sending n) = sender-idles n 0 ∙ ap (idleNode send) (omega arith)
@@ -74,7 +74,7 @@ each-same f g same [] = refl
 each-same f g same (r ∷ rows) = rw (same (r .trial), each-same f g same rows)
 
 computed : map (λ (r : Row). shortly (r .trial)) moments ≡ map (λ (r : Row). r .shown) moments
-unfolding moments setUp inPlace hear heardBy deliveredAtOnce tick late due holdOver lapsed dueSlots recordsFrom request requested
+unfolding moments setUp lessFree inPlace hear heardBy deliveredAtOnce tick late due holdOver lapsed dueSlots recordsFrom request requested
     nextFrame pendingIn lowest give givenOut payloadFor split carries recordOf badFrame legal sameBytes first onFirst some
 computed = refl
 

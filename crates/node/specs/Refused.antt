@@ -60,13 +60,13 @@ receiver = Call.setUp five (settings receive 6)
 abbrev sender : Call
 sender = Call.setUp five (settings send 6)
 
--- a stream of plain frames, and all those below a number
+-- a stream of plain frames, and so many from one on
 abbrev plain : ℕ → Call
 plain s = Call.setUp (record { 0 = s }) (ofPlain receive)
 
-abbrev plains : ℕ → List Call
-plains zero = []
-plains (suc s) = plain s ∷ plains s
+abbrev plains : (from many : ℕ) → List Call
+plains s zero = []
+plains s (suc many) = plain s ∷ plains (suc s) many
 
 abbrev hear : (id dlc : ℕ) → (payload output : List ℕ) → Call
 hear id dlc payload output = Call.hear (record { 0 = id }) dlc payload output
@@ -75,7 +75,7 @@ abbrev pub setUpRows : List Row
 setUpRows =
     row [] (Call.setUp five (settings receive 5)) BadSettings ∷
     row (receiver ∷ []) receiver Taken ∷
-    row (plains slotCount) (plain slotCount) TableFull ∷
+    row (plains 0 slotCount) (plain slotCount) TableFull ∷
     row [] receiver Done ∷
     []
 

@@ -1,5 +1,5 @@
 -- Setting up a stream: the replies BadSettings, Taken, TableFull, in this order.
-use mathlib.Core.Bool.{cond, not}
+use mathlib.Core.Bool.{cond, not, _||_}
 use mathlib.Core.List.{List, [], _∷_}
 use lib.Dec.{ltb}
 use Rattle.wire.specs.declared.ids.Stream.{Stream}
@@ -19,13 +19,15 @@ setUpRefusals s settings n =
     ∷ (TableFull, not (some isFree (n .slots)))
     ∷ []
 
--- the slots in use stand first, ascending by stream: of two slots the one with the lower stream stays, and the other is carried on, until a
--- free slot gives way
+-- the same slots but the first free one
+unfoldable pub lessFree : List Slot → List Slot
+lessFree [] = []
+lessFree (y ∷ ys) = cond (isFree y) ys (y ∷ lessFree ys)
+
+-- the slots in use stand first, ascending by stream: x stands before the first slot that is free or has a higher stream, and a free slot gives way
 unfoldable pub inPlace : Slot → List Slot → List Slot
 inPlace x [] = []
-inPlace x (y ∷ ys) =
-    cond (isFree y) (x ∷ ys)
-    (cond (ltb (x .stream .0) (y .stream .0)) (x ∷ inPlace y ys) (y ∷ inPlace x ys))
+inPlace x (y ∷ ys) = cond (isFree y || ltb (x .stream .0) (y .stream .0)) (x ∷ lessFree (y ∷ ys)) (y ∷ inPlace x ys)
 
 unfoldable pub setUp : Stream → Settings → Node → Outcome
 setUp s settings n =

@@ -9,29 +9,33 @@ use wire::reply::Reply;
 use wire::settings::Settings;
 ghost use mathlib.Core.Path.{_≡_};
 ghost use mathlib.Core.List.{List};
-ghost use Prim.Native.Nat.{_≤_, min};
+ghost use Prim.Native.Nat.{_≤_};
 ghost use lib.ListN.{length};
 ghost use Rattle.wire.specs.Frames.{maxPayload};
 ghost use Rattle.wire.specs.Delivered.{over};
 ghost use Rattle.node.specs.Slots.{payloadOf};
 ghost use Rattle.node.specs.Nodes.{asGiven};
-ghost use Rattle.node.specs.Selection.{lowestOrAbove};
-ghost use Rattle.node.specs.NextFrame.{pendingCodes, pendingIn, givenOut, payloadFor, nextFrame};
+ghost use Rattle.node.specs.NextFrame.{pendingCodes, lowest, hasFrame, givenOut, payloadFor, nextFrame};
 ghost use Rattle.node.specs.Clock.{rolled, unbounded};
 ghost use Rattle.node.specs.Calls.{Call, after, rollOutcome};
 
-// Above every identifier: the lowest, where no frame is pending.
-const NONE: u32 = BusId::MAX + 1;
-
 impl Slot {
-    // The lowest code of the slot's pending frames.
-    pub fn lowest_code(self) -> u32
-        ensures { λ r. ⌜ r ≡ lowestOrAbove (pendingCodes self) ⌝ }
+    // Whether a frame of the slot is pending.
+    pub fn has_frame(self) -> bool
+        ensures { λ r. ⌜ r ≡ hasFrame self ⌝ }
     {
         let p = self.pending;
         if !p.any() {
-            return NONE;
+            return false;
         }
+        self.used & (self.stream.0 <= Stream::MAX)
+    }
+
+    // The lowest code of the slot's pending frames.
+    pub fn lowest_code(self) -> u32
+        ensures { λ r. ⌜ r ≡ lowest (pendingCodes self) ⌝ }
+    {
+        let p = self.pending;
         let plain = self.settings.class == Settings::PLAIN;
         if p.payload & !plain {
             return 0;
@@ -42,26 +46,10 @@ impl Slot {
         if p.abort {
             return 2;
         }
-        3
-    }
-
-    // The lowest bus identifier of the slot's pending frames.
-    pub fn lowest_pending(self) -> BusId
-        ensures { λ r. ⌜ r ≡ record { 0 = lowestOrAbove (pendingIn self) } ⌝ }
-    {
-        let code = self.lowest_code();
-        if code > 3 {
-            return BusId(NONE);
+        if p.payload {
+            return 3;
         }
-        if !self.used {
-            return BusId(NONE);
-        }
-        let stream = self.stream;
-        if stream.0 > Stream::MAX {
-            return BusId(NONE);
-        }
-        let joined = stream.join(code);
-        joined.id
+        0
     }
 
     // The slot once its frame with this code is given out.
@@ -106,17 +94,11 @@ fn put_payload(out: &mut [u8], m: Message) -> usize
     n
 }
 
-fn lower(a: u32, b: u32) -> u32
-    ensures { λ r. ⌜ r ≡ min a b ⌝ }
-{
-    if a <= b { a } else { b }
-}
-
 impl Node {
     // The longest payload must fit.
     pub const NEXT_ROOM: usize = Message::MAX_LEN;
 
-    // Gives out the pending frame with the lowest bus identifier; it is pending no longer.
+    // Gives out the pending frame with the lowest bus identifier, of the first slot that has one; it is pending no longer.
     pub fn next_frame(mut self, out: &mut [u8]) -> Given
         ensures exact { λ r. ⌜ (r ≡ asGiven (nextFrame (now (out .entry)) self))
             × (now (out .exit) ≡ over (nextFrame (now (out .entry)) self .bytes) (now (out .entry))) ⌝ }
@@ -132,19 +114,16 @@ impl Node {
                 len: 0,
             };
         }
-        // The lowest bus identifier of all pending frames.
-        let mut low: u32 = NONE;
-        let mut k: usize = Node::SLOTS;
-        while k > 0 {
-            k -= 1;
-            let s = self.slots[k];
-            let p = s.pending;
-            if p.any() {
-                let id = s.lowest_pending();
-                low = lower(id.0, low);
+        // Where the first slot stands with a frame pending; past the last slot, where none has.
+        let mut i: usize = 0;
+        while i < Node::SLOTS {
+            let s = self.slots[i];
+            if s.has_frame() {
+                break;
             }
+            i += 1;
         }
-        if low > BusId::MAX {
+        if i >= Node::SLOTS {
             return Given {
                 node: self,
                 reply: Reply::Nothing,
@@ -152,27 +131,17 @@ impl Node {
                 len: 0,
             };
         }
-        let id = BusId(low);
-        let parts = id.split();
-        let stream = parts.stream;
-        let code = parts.code;
-        // Where the stream's slot stands: it has one.
-        let mut i: usize = 0;
-        while i < Node::SLOTS {
-            let s = self.slots[i];
-            if s.is_of(stream) {
-                break;
-            }
-            i += 1;
-        }
         let s = self.slots[i];
+        let stream = s.stream;
+        let code = s.lowest_code();
+        let joined = stream.join(code);
         let len = give_payload(out, s, code);
         let t = s.given_out(code);
         self.slots[i] = t;
         Given {
             node: self,
             reply: Reply::Done,
-            id: id,
+            id: joined.id,
             len: len,
         }
     }

@@ -54,8 +54,22 @@ impl Node {
                 reply: Reply::TableFull,
             };
         }
+        // Its slot stands before the first one with a higher stream; those from there on move up, to the free place.
+        let mut j: usize = 0;
+        while j < i {
+            let s = self.slots[j];
+            if stream.0 < s.stream.0 {
+                break;
+            }
+            j += 1;
+        }
+        while i > j {
+            i -= 1;
+            let s = self.slots[i];
+            self.slots[i + 1] = s;
+        }
         let s = Slot::set_up(stream, settings);
-        self.slots[i] = s;
+        self.slots[j] = s;
         Answered {
             node: self,
             reply: Reply::Done,

@@ -5,7 +5,7 @@ use Rattle.wire.specs.Frames.{badFrame}
 use Rattle.wire.specs.Classes.{carries}
 use Rattle.node.specs.Slots.{sameBytes, first, onFirst, some}
 use Rattle.node.specs.Clock.{Clock}
-use Rattle.node.specs.SetUp.{inPlace, setUp}
+use Rattle.node.specs.SetUp.{lessFree, inPlace, setUp}
 use Rattle.node.specs.Hear.{heardBy, hear}
 use Rattle.node.specs.Tick.{tick}
 use Rattle.node.specs.Request.{requested, request}
@@ -13,7 +13,7 @@ use Rattle.node.specs.NextFrame.{pendingIn, lowest, give, nextFrame}
 use Rattle.node.specs.Refused.{RepliesGiven}
 
 pub replies-given : (clock : Clock) → RepliesGiven clock
-unfolding setUp inPlace hear heardBy tick request requested nextFrame pendingIn lowest give legal badFrame carries sameBytes first onFirst some
+unfolding setUp lessFree inPlace hear heardBy tick request requested nextFrame pendingIn lowest give legal badFrame carries sameBytes first onFirst some
 replies-given clock =
     record {
       setUp = λ s settings n. record { given = refl; every = refl };

@@ -54,7 +54,7 @@ module _ (n : Node) (k : Kept n) where
   set-up-keeps s settings =
       kept-unless (set-up-cases s settings n .case) λ h.
       record {
-        slots-32 = length-in-place (slotFor s settings) (n .slots) ∙ k .slots-32;
+        slots-32 = length-in-place (slotFor s settings) (n .slots) (h .room) ∙ k .slots-32;
         in-order = set-up-in-order s settings (n .slots) (h .new) (k .in-order);
         each = all-in-place (KeptSlot (n .counter)) (slotFor s settings) (kept-set-up (n .counter) s settings (h .lawful)) (n .slots) (k .each);
       }

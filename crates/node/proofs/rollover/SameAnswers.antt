@@ -2,7 +2,7 @@
 use Prim.Native.Nat.{ℕ, _+_, _-_, _%_, _≤_, _<_}
 use native.Mathlib.Omega.{arith}
 use mathlib.Core.Path.{_≡_, refl, sym, ap, _∙_}
-use mathlib.Core.Bool.{Bool, true, false, cond, not, _&&_}
+use mathlib.Core.Bool.{Bool, true, false, cond, not, _&&_, _||_}
 use mathlib.Core.List.{List, [], _∷_, _++_, map}
 use lib.Dec.{eqb, ltb}
 use Rattle.wire.specs.declared.ids.Stream.{Stream}
@@ -16,7 +16,7 @@ use Rattle.node.specs.declared.Node.{Node}
 use Rattle.node.specs.Slots.{restamped, toSend, slotFor, isOf, isFree, isReceiver, isSender, withParts, withMessage}
 use Rattle.node.specs.Nodes.{fresh, slotOf, onSlot, Outcome, Refusals, unlessRefused, done}
 use Rattle.node.specs.Clock.{period, unbounded, rolled}
-use Rattle.node.specs.SetUp.{setUpRefusals, inPlace, setUp}
+use Rattle.node.specs.SetUp.{setUpRefusals, lessFree, inPlace, setUp}
 use Rattle.node.specs.Hear.{heardBy, deliveredAtOnce, hearRefusals, hear}
 use Rattle.node.specs.Request.{requested, requestRefusals, request}
 use Rattle.node.specs.NextFrame.{pendingIn, isNone, hasFrame, lowestGiven, givenOut, payloadFor, give, nextRefusals, nextFrame}
@@ -36,14 +36,18 @@ unless-refused-rolls u [] o p e = e
 unless-refused-rolls u ((r, t) ∷ rest) o p e = into rollOutcome t refl (unless-refused-rolls u rest o p e)
 
 -- ── setting up ──
+less-free-rolls : (ys : List Slot) → map rollSlot (lessFree ys) ≡ lessFree (map rollSlot ys)
+unfolding lessFree
+less-free-rolls [] = refl
+less-free-rolls (y ∷ ys) = into (map rollSlot) (isFree y) refl (ap (λ (l : List Slot). rollSlot y ∷ l) (less-free-rolls ys))
+
 in-place-rolls : (x : Slot) (ys : List Slot) → map rollSlot (inPlace x ys) ≡ inPlace (rollSlot x) (map rollSlot ys)
 unfolding inPlace
 in-place-rolls x [] = refl
 in-place-rolls x (y ∷ ys) =
-    into (map rollSlot) (isFree y) refl
-    (into (map rollSlot) (ltb (x .stream .0) (y .stream .0))
-    (ap (λ (l : List Slot). rollSlot x ∷ l) (in-place-rolls y ys))
-    (ap (λ (l : List Slot). rollSlot y ∷ l) (in-place-rolls x ys)))
+    into (map rollSlot) (isFree y || ltb (x .stream .0) (y .stream .0))
+    (ap (λ (l : List Slot). rollSlot x ∷ l) (less-free-rolls (y ∷ ys)))
+    (ap (λ (l : List Slot). rollSlot y ∷ l) (in-place-rolls x ys))
 
 set-up-rolls : (s : Stream) (settings : Settings) (u : Node) → rollOutcome (setUp s settings u) ≡ setUp s settings (roll u)
 unfolding setUp

@@ -1,10 +1,10 @@
 -- On slots in stream order the first slot with a frame pending has the lowest of all.
 use Prim.Native.Nat.{ℕ, _+_, _/_, _≤_, _<_, min}
 use native.Mathlib.Omega.{arith}
-use mathlib.Core.Path.{_≡_, refl, sym, ap, _∙_}
-use mathlib.Core.Bool.{Bool, true, false, cond, not, and-eq-true-iff}
+use mathlib.Core.Path.{_≡_, refl, sym, ap, subst, _∙_}
+use mathlib.Core.Bool.{Bool, true, false, cond, not, _||_, and-eq-true-iff}
 use mathlib.Core.Logic.{⊎-elim}
-use mathlib.Core.List.{List, [], _∷_, _++_, List·Memᴰ, List·Memᴰ·head, List·Memᴰ·not-nil, List·Memᴰ·append-cases}
+use mathlib.Core.List.{List, [], _∷_, _++_, List·Memᴰ, List·Memᴰ·head, List·Memᴰ·tail, List·Memᴰ·not-nil, List·Memᴰ·append-cases}
 use borrow.Author.Tests.{eqb-true, ne-eqb, leb-true, leb-false, not-true}
 use lib.Dec.{leb}
 use Rattle.wire.specs.declared.ids.Stream.{Stream}
@@ -12,8 +12,9 @@ use Rattle.wire.specs.Identifiers.{maxBusId, streamOf, codeOf}
 use Rattle.node.specs.declared.slots.Slot.{Slot}
 use Rattle.node.specs.declared.Node.{Node}
 use Rattle.node.specs.Slots.{empty, isOf, first, onFirst, some}
-use Rattle.node.specs.NextFrame.{pendingIn, isNone, lowest, givenOut, hasFrame, lowestFrame, lowestGiven, give, nextFrame}
-use Rattle.node.specs.OldLayout.{pendingIds, giveById, nextById}
+use Rattle.node.specs.NextFrame.{pendingIn, isNone, lowest, givenOut, hasFrame, lowestFrame, lowestGiven, give, nextRefusals, nextFrame}
+use Rattle.node.specs.OldLayout.{pendingIds, giveById, nextByIdRefusals, nextById}
+use Rattle.node.specs.Nodes.{unlessRefused}
 use Rattle.node.specs.Reachable.{All, After, InOrder}
 use Rattle.node.proofs.Choices.{contrary}
 use Rattle.node.proofs.slots.Table.{all-first}
@@ -50,21 +51,17 @@ unfolding lowestOrAbove
 none-below [] low none small = omega arith
 none-below (i ∷ is) low none small = contrary none refl
 
+none-in-empty : pendingIn empty ≡ []
+unfolding pendingIn
+none-in-empty = refl
+
 lowest-in-order : (xs : List Slot) → InOrder xs → lowestOrAbove (pendingIn (first hasFrame xs)) ≡ lowestOrAbove (pendingIds xs)
 unfolding pendingIds first
-lowest-in-order [] h = none-pending
-  where
-    none-pending : lowestOrAbove (pendingIn empty) ≡ lowestOrAbove []
-    unfolding pendingIn
-    none-pending = refl
+lowest-in-order [] h = ap lowestOrAbove none-in-empty
 lowest-in-order (x ∷ xs) h = rw (lowest-append (pendingIn x) (pendingIds xs)) (arm (isNone (pendingIn x)) refl (lowest-in-order xs (h .1)))
   where
-    later : Slot
-    later = first hasFrame xs
-
-    arm : (t : Bool) → isNone (pendingIn x) ≡ t → lowestOrAbove (pendingIn later) ≡ lowestOrAbove (pendingIds xs)
-        → lowestOrAbove (pendingIn (cond (not t) x later)) ≡ min (lowestOrAbove (pendingIn x)) (lowestOrAbove (pendingIds xs))
-    unfolding later
+    arm : (t : Bool) → isNone (pendingIn x) ≡ t → lowestOrAbove (pendingIn (first hasFrame xs)) ≡ lowestOrAbove (pendingIds xs)
+        → lowestOrAbove (pendingIn (cond (not t) x (first hasFrame xs))) ≡ min (lowestOrAbove (pendingIn x)) (lowestOrAbove (pendingIds xs))
     arm true e ih = ih ∙ sym (none-below (pendingIn x) (lowestOrAbove (pendingIds xs)) e (lowest-at-most (pendingIds xs)))
     arm false e ih = omega (arith, lowest-here x xs (h .0) e)
 
@@ -105,6 +102,31 @@ same-change test f g (x ∷ xs) e = arm (test x) e (same-change test f g xs)
     arm true e rest = rw e
     arm false e rest = rw (rest e)
 
+lowest-among : (is : List ℕ) → isNone is ≡ false → List·Memᴰ (lowest is) is
+unfolding lowest
+lowest-among [] some = contrary refl some
+lowest-among (i ∷ []) some = List·Memᴰ·head refl
+lowest-among (i ∷ j ∷ is) some = go (leb i (lowest (j ∷ is))) refl (lowest-among (j ∷ is) refl)
+  where
+    go : (t : Bool) → leb i (lowest (j ∷ is)) ≡ t → List·Memᴰ (lowest (j ∷ is)) (j ∷ is) → List·Memᴰ (min i (lowest (j ∷ is))) (i ∷ j ∷ is)
+    go true e rest =
+        let same : i ≡ min i (lowest (j ∷ is)) = omega (arith, leb-true i (lowest (j ∷ is)) e) in
+        subst (λ k. List·Memᴰ k (i ∷ j ∷ is)) same (List·Memᴰ·head refl)
+    go false e rest =
+        let same : lowest (j ∷ is) ≡ min i (lowest (j ∷ is)) = omega (arith, leb-false i (lowest (j ∷ is)) e) in
+        List·Memᴰ·tail (subst (λ k. List·Memᴰ k (j ∷ is)) same rest)
+
+-- there is one exactly where the first slot that is found has one
+some-has-frame : (xs : List Slot) → some hasFrame xs ≡ hasFrame (first hasFrame xs)
+unfolding some first
+some-has-frame [] = sym (ap (λ (is : List ℕ). not (isNone is)) none-in-empty)
+some-has-frame (x ∷ xs) = arm (hasFrame x) refl (some-has-frame xs)
+  where
+    arm : (t : Bool) → hasFrame x ≡ t → some hasFrame xs ≡ hasFrame (first hasFrame xs)
+        → (t || some hasFrame xs) ≡ hasFrame (cond t x (first hasFrame xs))
+    arm true e rest = sym e
+    arm false e rest = rest
+
 module _ (n : Node) where
   abbrev giver : Slot
   giver = first hasFrame (n .slots)
@@ -119,5 +141,19 @@ module _ (n : Node) where
       let own = of-stream hasFrame (streamOf id) (n .slots) h (pending-from-slot giver (lowest-of-giver frame) .of-stream) in
       rw (own .found, own .changed (givenOut (codeOf id)), same-change hasFrame lowestGiven (givenOut (codeOf id)) (n .slots) refl)
 
+-- ── the next frame ──
+giver-in-range : (n : Node) (i : ℕ) → List·Memᴰ i (pendingIn (giver n)) → i ≤ maxBusId
+giver-in-range n i m = pending-from-slot (giver n) m .in-range
+
 pub next-in-order : (output : List ℕ) (n : Node) → InOrder (n .slots) → nextFrame output n ≡ nextById output n
-next-in-order output n h = ?
+unfolding nextFrame
+next-in-order output n h =
+    by-giver (isNone (pendingIn (giver n))) refl
+    ∙ (by-lowest output n (pendingIn (giver n)) (giver-in-range n)
+    ∙ rw (lowest-in-order (n .slots) h) (sym (next-by-lowest output n)))
+  where
+    by-giver : (t : Bool) → isNone (pendingIn (giver n)) ≡ t
+        → unlessRefused n (nextRefusals output n) (give n)
+        ≡ unlessRefused n (nextByIdRefusals output (pendingIn (giver n))) (giveById (lowestFrame (giver n)) n)
+    by-giver true e = rw (some-has-frame (n .slots), e)
+    by-giver false e = rw (some-has-frame (n .slots), e, give-in-order n h (ap not e))

@@ -2,7 +2,7 @@
 use Prim.Native.Nat.{ℕ, zero, suc, _<_}
 use native.Mathlib.Omega.{arith}
 use mathlib.Core.Path.{_≡_, refl, sym, ap, subst}
-use mathlib.Core.Bool.{Bool, true, false, cond}
+use mathlib.Core.Bool.{Bool, true, false, cond, _||_}
 use mathlib.Core.List.{List, [], _∷_, map}
 use lib.Dec.{eqb, ltb}
 use lib.ListN.{length, replicate}
@@ -11,31 +11,62 @@ use Rattle.wire.specs.declared.ids.Stream.{Stream}
 use Rattle.wire.specs.declared.settings.Settings.{Settings}
 use Rattle.node.specs.declared.slots.Slot.{Slot}
 use Rattle.node.specs.Slots.{empty, slotFor, isFree, isOf, onFirst, some}
-use Rattle.node.specs.SetUp.{inPlace}
+use Rattle.node.specs.SetUp.{lessFree, inPlace}
 use Rattle.node.specs.Reachable.{All, After, InOrder}
 use Rattle.node.specs.SlotOrder.{Distinct}
-use Rattle.node.proofs.Choices.{contrary, neither, either-way}
+use Rattle.node.proofs.Choices.{contrary, neither}
 use Rattle.node.proofs.slots.Table.{all-map, all-weaken, all-replicate, all-on-first}
 use Rattle.node.proofs.slots.Streams.{Kind, kindOf, KeepsKind}
 
 -- ── with a slot put in its place ──
-pub all-in-place : (P : Slot → Type 0) (x : Slot) → P x → (ys : List Slot) → All P ys → All P (inPlace x ys)
-unfolding inPlace
-all-in-place P x p [] ps = tt
-all-in-place P x p (y ∷ ys) ps =
-    arm (isFree y) (ltb (x .stream .0) (y .stream .0)) (all-in-place P x p ys (ps .1)) (all-in-place P y (ps .0) ys (ps .1))
-  where
-    arm : (t u : Bool) → All P (inPlace x ys) → All P (inPlace y ys) → All P (cond t (x ∷ ys) (cond u (x ∷ inPlace y ys) (y ∷ inPlace x ys)))
-    arm true u with-x with-y = (p, ps .1)
-    arm false true with-x with-y = (p, with-y)
-    arm false false with-x with-y = (ps .0, with-x)
+module _ (P : Slot → Type 0) where
+  all-less-free : (ys : List Slot) → All P ys → All P (lessFree ys)
+  unfolding lessFree
+  all-less-free [] ps = tt
+  all-less-free (y ∷ ys) ps = arm (isFree y) (all-less-free ys (ps .1))
+    where
+      arm : (t : Bool) → All P (lessFree ys) → All P (cond t ys (y ∷ lessFree ys))
+      arm true rest = ps .1
+      arm false rest = (ps .0, rest)
 
-pub length-in-place : (x : Slot) (ys : List Slot) → length (inPlace x ys) ≡ length ys
-unfolding inPlace
-length-in-place x [] = refl
-length-in-place x (y ∷ ys) =
-    either-way length (isFree y) refl
-    (either-way length (ltb (x .stream .0) (y .stream .0)) (ap suc (length-in-place y ys)) (ap suc (length-in-place x ys)))
+  pub all-in-place : (x : Slot) → P x → (ys : List Slot) → All P ys → All P (inPlace x ys)
+  unfolding inPlace
+  all-in-place x p [] ps = tt
+  all-in-place x p (y ∷ ys) ps = arm (isFree y || ltb (x .stream .0) (y .stream .0)) (all-in-place x p ys (ps .1))
+    where
+      arm : (t : Bool) → All P (inPlace x ys) → All P (cond t (x ∷ lessFree (y ∷ ys)) (y ∷ inPlace x ys))
+      arm true rest = (p, all-less-free (y ∷ ys) ps)
+      arm false rest = (ps .0, rest)
+
+length-less-free : (ys : List Slot) → some isFree ys ≡ true → suc (length (lessFree ys)) ≡ length ys
+unfolding some lessFree
+length-less-free [] room = contrary room refl
+length-less-free (y ∷ ys) room = arm (isFree y) refl (length-less-free ys)
+  where
+    arm : (t : Bool) → isFree y ≡ t → (some isFree ys ≡ true → suc (length (lessFree ys)) ≡ length ys)
+        → suc (length (cond t ys (y ∷ lessFree ys))) ≡ suc (length ys)
+    arm true e rest = refl
+    arm false e rest = ap suc (rest (rw e at room))
+
+pub length-in-place : (x : Slot) (ys : List Slot) → some isFree ys ≡ true → length (inPlace x ys) ≡ length ys
+unfolding some inPlace
+length-in-place x [] room = refl
+length-in-place x (y ∷ ys) room = arm (isFree y) (ltb (x .stream .0) (y .stream .0)) refl (length-in-place x ys)
+  where
+    arm : (t u : Bool) → isFree y ≡ t → (some isFree ys ≡ true → length (inPlace x ys) ≡ length ys)
+        → length (cond (t || u) (x ∷ lessFree (y ∷ ys)) (y ∷ inPlace x ys)) ≡ suc (length ys)
+    arm true u e rest = length-less-free (y ∷ ys) room
+    arm false true e rest = length-less-free (y ∷ ys) room
+    arm false false e rest = ap suc (rest (rw e at room))
+
+less-free-in-order : (ys : List Slot) → InOrder ys → InOrder (lessFree ys)
+unfolding lessFree
+less-free-in-order [] h = tt
+less-free-in-order (y ∷ ys) h = arm (isFree y) (less-free-in-order ys (h .1))
+  where
+    arm : (t : Bool) → InOrder (lessFree ys) → InOrder (cond t ys (y ∷ lessFree ys))
+    arm true rest = h .1
+    arm false rest = (all-less-free (After y) ys (h .0), rest)
 
 abbrev Apart : Slot → Slot → Type 0
 Apart x y = y .used ≡ true → x .stream .0 ≡ y .stream .0 → ⊥
@@ -44,24 +75,25 @@ in-place-in-order : (x : Slot) → x .used ≡ true → (ys : List Slot) → All
 unfolding inPlace
 in-place-in-order x used [] apart h = tt
 in-place-in-order x used (y ∷ ys) apart h =
-    arm (isFree y) (ltb (x .stream .0) (y .stream .0)) refl refl
-    (in-place-in-order x used ys (apart .1) (h .1))
-    (λ used-y. in-place-in-order y used-y ys (all-weaken (After y) (Apart y) (λ z a u same. omega (arith, a u .1)) ys (h .0)) (h .1))
+    arm (isFree y) (ltb (x .stream .0) (y .stream .0)) refl refl (in-place-in-order x used ys (apart .1) (h .1))
   where
-    arm : (t u : Bool) → isFree y ≡ t → ltb (x .stream .0) (y .stream .0) ≡ u
-        → InOrder (inPlace x ys) → (y .used ≡ true → InOrder (inPlace y ys))
-        → InOrder (cond t (x ∷ ys) (cond u (x ∷ inPlace y ys) (y ∷ inPlace x ys)))
+    in-front : After x y → ((z : Slot) → After y z → After x z) → InOrder (x ∷ lessFree (y ∷ ys))
+    in-front first later =
+        (all-less-free (After x) (y ∷ ys) (first, all-weaken (After y) (After x) later ys (h .0)), less-free-in-order (y ∷ ys) h)
+
+    arm : (t u : Bool) → isFree y ≡ t → ltb (x .stream .0) (y .stream .0) ≡ u → InOrder (inPlace x ys)
+        → InOrder (cond (t || u) (x ∷ lessFree (y ∷ ys)) (y ∷ inPlace x ys))
     -- what follows a free slot is free
-    arm true u e f with-x with-y =
-        (all-weaken (After y) (After x) (λ z a used-z. contrary (a used-z .0) (not-true (y .used) e)) ys (h .0), h .1)
-    arm false true e f with-x with-y =
+    arm true u e f rest =
+        let free = not-true (y .used) e in
+        in-front (λ used-y. contrary used-y free) (λ z a used-z. contrary (a used-z .0) free)
+    arm false true e f rest =
         let lower = ltb-true (x .stream .0) (y .stream .0) f in
-        let later : All (After x) ys = all-weaken (After y) (After x) (λ z a u. (used, omega (arith, a u .1))) ys (h .0) in
-        (all-in-place (After x) y (λ u. (used, lower)) ys later, with-y (not-false (y .used) e))
-    arm false false e f with-x with-y =
+        in-front (λ used-y. (used, lower)) (λ z a used-z. (used, omega (arith, a used-z .1)))
+    arm false false e f rest =
         let used-y = not-false (y .used) e in
         let lower : y .stream .0 < x .stream .0 = omega (arith, ltb-false (x .stream .0) (y .stream .0) f, apart .0 used-y) in
-        (all-in-place (After y) x (λ u. (used-y, lower)) ys (h .0), with-x)
+        (all-in-place (After y) x (λ u. (used-y, lower)) ys (h .0), rest)
 
 -- a stream that has no slot is that of none in use
 new-apart : (s : Stream) (settings : Settings) (xs : List Slot) → some (isOf s) xs ≡ false → All (Apart (slotFor s settings)) xs
