@@ -16,7 +16,7 @@ use Rattle.wire.specs.Delivered.{recordOf}
 use Rattle.node.specs.declared.slots.Slot.{Slot}
 use Rattle.node.specs.Slots.{isOf, first, onFirst, some}
 use Rattle.node.specs.Clock.{Clock, rolled}
-use Rattle.node.specs.SetUp.{setUp}
+use Rattle.node.specs.SetUp.{inPlace, setUp}
 use Rattle.node.specs.Hear.{hearRoom, hear, heardBy, deliveredAtOnce}
 use Rattle.node.specs.Tick.{tickRoom, late, due, holdOver, lapsed, ageOf, dueSlots, recordsFrom, tick}
 use Rattle.node.specs.Calls.{Call, outcome, after}
@@ -81,7 +81,7 @@ abbrev delivered-then : List ℕ
 delivered-then = outcome rolled one-tick (after rolled history) .bytes
 
 pub lower-stream-first : delivered-then ≡ recordOf five (8 ∷ []) ++ recordOf nine (7 ∷ [])
-unfolding setUp hear heardBy deliveredAtOnce tick late due holdOver lapsed dueSlots recordsFrom recordOf legal badFrame carries first onFirst some
+unfolding setUp hear heardBy deliveredAtOnce tick late due holdOver lapsed dueSlots recordsFrom recordOf legal badFrame carries first onFirst some inPlace
 lower-stream-first = refl
 
 pub not-in-slot-order : delivered-then ≡ recordOf nine (7 ∷ []) ++ recordOf five (8 ∷ []) → ⊥
