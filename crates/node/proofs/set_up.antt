@@ -1,3 +1,4 @@
 -- Laws that setting up a stream rests on.
 pub mod Cases
 pub mod Ways
+pub mod TheSlot
