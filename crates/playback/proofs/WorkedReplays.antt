@@ -132,7 +132,7 @@ all-so (r ∷ rs) short =
 
 pub replayed-as-worked : ReplayedAsWorked
 unfolding rows step towards tickStep hearStep quietIn withSlot gapFrom heardAt countBytes recordOf setUp inPlace lessFree hear heardBy
-    deliveredAtOnce tick     late due holdOver lapsed dueSlots recordsFrom delivered.recordOf legal badFrame carries first onFirst some sameBytes delivered.recordAt
+    deliveredAtOnce tick late due holdOver lapsed dueSlots recordsFrom delivered.recordOf legal badFrame carries first onFirst some sameBytes delivered.recordAt
 replayed-as-worked = all-so rows refl ∙ refl
 
 pub quiet-as-worked : QuietAsWorked
