@@ -131,17 +131,21 @@ some-has-frame (x ∷ xs) = arm (hasFrame x) refl (some-has-frame xs)
     arm false e rest = rest
 
 module _ (n : Node) where
-  abbrev giver : Slot
+  abbrev pub giver : Slot
   giver = first hasFrame (n .slots)
 
-  lowest-of-giver : hasFrame giver ≡ true → List·Memᴰ (lowest (pendingIn giver)) (pendingIn giver)
-  lowest-of-giver h = lowest-among (pendingIn giver) (not-true _ h)
+  -- its frame is of its stream
+  own-frame : hasFrame giver ≡ true → isOf (streamOf (lowestFrame giver)) giver ≡ true
+  own-frame frame = pending-from-slot giver (lowest-among (pendingIn giver) (not-true _ frame)) .of-stream
+
+  pub giver-of-stream : some hasFrame (n .slots) ≡ true → isOf (streamOf (lowestFrame giver)) giver ≡ true
+  giver-of-stream pending = own-frame (sym (some-has-frame (n .slots)) ∙ pending)
 
   give-in-order : InOrder (n .slots) → hasFrame giver ≡ true → give n ≡ giveById (lowestFrame giver) n
   unfolding give giveById
   give-in-order h frame =
       let id = lowestFrame giver in
-      let own = of-stream hasFrame (streamOf id) (n .slots) h (pending-from-slot giver (lowest-of-giver frame) .of-stream) in
+      let own = of-stream hasFrame (streamOf id) (n .slots) h (own-frame frame) in
       rw (own .found, own .changed (givenOut (codeOf id)), same-change hasFrame lowestGiven (givenOut (codeOf id)) (n .slots) refl)
 
 -- ── the next frame ──
