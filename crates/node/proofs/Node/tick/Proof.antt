@@ -54,9 +54,11 @@ loop-again c =
     let l = d .before .loop .inv in
     let age = c .before .before .before .before .before .before .before .before .before .before .before .before .age .ensures in
     let due = sym (c .before .before .before .before .before .before .before .before .due .ensures) ∙ c .before .before .before .before .before .before .before .if3 .taken in
-    let same = slot-as-it-was (l .1) noSlot h in
-    (omega arith, one-lapses (l .1) noSlot h _ age (due-stirs _ _ due) _ (c .before .before .before .before .before .before .stirred .ensures),
-    one-is-written (l .2) noSlot h _ same _ age _ (c .before .before .before .before .all-bytes .ensures) due _ _ (c .before .before .write-record .ensures))
+    let same = slot-as-it-was (l .1) noSlot h in (
+      omega arith,
+      one-lapses (l .1) noSlot h _ age (due-stirs _ _ due) _ (c .before .before .before .before .before .before .stirred .ensures),
+      one-is-written (l .2) noSlot h _ same _ age _ (c .before .before .before .before .all-bytes .ensures) due _ _ (c .before .before .write-record .ensures),
+    )
 
 loop-again-2 : tie.Need-loop-again-2 Inv-loop μ-loop
 loop-again-2 c =
@@ -74,9 +76,11 @@ loop-again-3 c =
     let h = d .loop-test .taken in
     let l = d .before .loop .inv in
     let age = c .before .before .before .before .before .before .before .age .ensures in
-    let still = sym (c .before .stirs .ensures) ∙ c .if4 .left in
-    (omega arith, one-stays (l .1) noSlot h _ age still,
-    one-is-not-due (l .2) noSlot h _ (slot-as-it-was (l .1) noSlot h) _ age (still-is-not-due _ _ still))
+    let still = sym (c .before .stirs .ensures) ∙ c .if4 .left in (
+      omega arith,
+      one-stays (l .1) noSlot h _ age still,
+      one-is-not-due (l .2) noSlot h _ (slot-as-it-was (l .1) noSlot h) _ age (still-is-not-due _ _ still),
+    )
 
 loop-again-4 : tie.Need-loop-again-4 Inv-loop μ-loop
 loop-again-4 c =
@@ -84,9 +88,11 @@ loop-again-4 c =
     let h = d .loop-test .taken in
     let l = d .before .loop .inv in
     let age = c .before .before .age .ensures in
-    let still = young-is-still _ _ (sym (c .before .may-stir .ensures) ∙ c .if2 .left) in
-    (omega arith, one-stays (l .1) noSlot h _ age still,
-    one-is-not-due (l .2) noSlot h _ (slot-as-it-was (l .1) noSlot h) _ age (still-is-not-due _ _ still))
+    let still = young-is-still _ _ (sym (c .before .may-stir .ensures) ∙ c .if2 .left) in (
+      omega arith,
+      one-stays (l .1) noSlot h _ age still,
+      one-is-not-due (l .2) noSlot h _ (slot-as-it-was (l .1) noSlot h) _ age (still-is-not-due _ _ still),
+    )
 
 -- ── done ──
 same-length : tie.Need-same-length Inv-loop μ-loop
