@@ -24,7 +24,7 @@ use Rattle.node.proofs.Choices.{contrary}
 use Rattle.node.proofs.Cases.{by-case}
 use Rattle.node.proofs.tick.Cases.{tick-cases}
 use Rattle.node.proofs.request.Cases.{request-cases}
-use Rattle.node.proofs.next_frame.Cases.{low, next-facts, next-passes, next-cases}
+use Rattle.node.proofs.next_frame.Cases.{next-facts, next-passes, next-cases}
 use Rattle.node.proofs.kept.EveryCall.{kept-by}
 use Rattle.node.proofs.rollover.SameAnswers.{rolls}
 use Rattle.one_stream.proofs.Truth.{and-l, is-true, so}
@@ -117,7 +117,7 @@ shorter-output : (n : Node) → outcome unbounded code.next n ≡ giving n
 shorter-output n =
     let law = next-cases lent n in
     by-case (λ o. o ≡ giving n) (λ r why. sym (law .refused-if r why))
-    (λ h. sym (law .accepted-if (next-facts lent (low lent n) (next-passes eight-bytes (low lent n) h)))) (next-cases eight-bytes n .case)
+    (λ h. sym (law .accepted-if (next-facts lent n (next-passes eight-bytes n h)))) (next-cases eight-bytes n .case)
   where
     eight-bytes : List ℕ
     eight-bytes = replicate maxPayload 0

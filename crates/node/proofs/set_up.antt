@@ -2,3 +2,4 @@
 pub mod Cases
 pub mod Placing
 pub mod Ways
+pub mod TheSlot

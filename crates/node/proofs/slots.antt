@@ -3,5 +3,5 @@ pub mod Table
 pub mod Streams
 pub mod InOrder
 pub mod Finding
-pub mod Downward
+pub mod Upward
 pub mod Payloads

@@ -1,9 +1,7 @@
 -- Laws that a tick rests on.
 pub mod Tests
 pub mod Stirring
-pub mod LeastKey
-pub mod DueOrder
-pub mod Loops
+pub mod OnePass
 pub mod Cases
 pub mod Ways
 pub mod Ascending

@@ -1,4 +1,4 @@
-// A tick: the counter moves, what is due is delivered by ascending stream, and what is late dropped.
+// A tick: the counter moves, what is due is delivered in the order of the slots, and what is late dropped.
 use crate::Delivered;
 use crate::Node;
 use crate::slots::Message;
@@ -8,13 +8,12 @@ use wire::reply::Reply;
 use wire::settings::Settings;
 ghost use mathlib.Core.Path.{_≡_};
 ghost use mathlib.Core.List.{List};
-ghost use Prim.Native.Nat.{_+_, _≤_, _<_};
 ghost use lib.ListN.{length};
 ghost use Rattle.wire.specs.Frames.{maxPayload};
 ghost use Rattle.wire.specs.Delivered.{over};
-ghost use Rattle.node.specs.Nodes.{slotCount, asDelivered};
+ghost use Rattle.node.specs.Nodes.{asDelivered};
 ghost use Rattle.node.specs.Tick.{late, due, holdOver, tick};
-ghost use Rattle.node.specs.Selection.{stirs, mayStir, stirred, keyOf, before, above, leastAt};
+ghost use Rattle.node.specs.Stirring.{stirs, mayStir, stirred};
 ghost use Rattle.node.specs.Clock.{rolled, unbounded};
 ghost use Rattle.node.specs.Calls.{Call, after, rollOutcome};
 
@@ -22,12 +21,6 @@ fn wide16(x: u16) -> u32
     ensures { λ r. ⌜ r ≡ x ⌝ }
 {
     x as u32
-}
-
-fn wide32(x: u32) -> u64
-    ensures { λ r. ⌜ (r ≡ x) × (r < 4294967296) ⌝ }
-{
-    x as u64
 }
 
 // The counter after a tick.
@@ -129,16 +122,6 @@ impl Slot {
         self.due(age)
     }
 
-    // One above the stream, if the slot is due; else 0.
-    fn key(self, age: u16) -> u64
-        ensures { λ r. ⌜ r ≡ keyOf age self ⌝ }
-    {
-        if self.due(age) {
-            return wide32(self.stream.0) + 1;
-        }
-        0
-    }
-
     // What a tick makes of a slot that it changes.
     fn stirred(mut self) -> Slot
         ensures { λ r. ⌜ r ≡ stirred self ⌝ }
@@ -166,39 +149,6 @@ impl Slot {
     }
 }
 
-// Whether a key is `from` or above, and before the best of those after it, which is 0 where none of them counts.
-fn is_before(from: u64, key: u64, best: u64) -> bool
-    ensures { λ r. ⌜ r ≡ before from key best ⌝ }
-{
-    (from <= key) & ((best == 0) | (key <= best))
-}
-
-// How far a key lies above a number; a lower key lies further above it than any other, since the difference wraps around.
-fn above(from: u64, key: u64) -> u64
-    ensures { λ r. ⌜ (r ≡ above from key) × (from < 18446744073709551616) × (key < 18446744073709551616) ⌝ }
-{
-    std::num::wrapping_sub_u64(key, from)
-}
-
-// The place of the least key that is `from` or above, the first of them; the number of keys, where there is none.
-fn least(keys: &[u64; Node::SLOTS], from: u64) -> usize
-    requires { ⌜ (length (now keys) ≡ slotCount) × (1 ≤ from) ⌝ }
-    ensures { λ r. ⌜ r ≡ leastAt from (now (keys .entry)) ⌝ }
-{
-    let mut place: usize = Node::SLOTS;
-    let mut nearest = u64::MAX - from;
-    let mut i: usize = Node::SLOTS;
-    while i > 0 {
-        i -= 1;
-        let distance = above(from, keys[i]);
-        if distance <= nearest {
-            place = i;
-            nearest = distance;
-        }
-    }
-    place
-}
-
 impl Node {
     // A tick writes at most the longest record for each slot.
     pub const TICK_ROOM: usize = Node::SLOTS * Node::HEAR_ROOM;
@@ -220,67 +170,24 @@ impl Node {
         }
         let now = next(self.counter);
         self.counter = now;
-        // Most ticks change no slot, so the slots are only read at first: which of them stir, and whether any does; of the due
-        // ones the keys, how many they are, and the place of the least key, with the key.
-        let mut keys = [0u64; Node::SLOTS];
-        let mut stirring = [false; Node::SLOTS];
-        let mut any = false;
-        let mut left: usize = 0;
-        let mut place: usize = Node::SLOTS;
-        let mut best: u64 = 0;
-        let mut i: usize = Node::SLOTS;
-        while i > 0 {
-            i -= 1;
+        let mut at: usize = 0;
+        let mut passed: usize = 0;
+        while passed < Node::SLOTS {
+            let i = passed;
+            passed += 1;
             let slot = self.slots[i];
             let a = age(now, slot.message.stamp);
             if slot.may_stir(a) {
                 // Read again, so that of the other slots only a few fields are read.
                 let old = self.slots[i];
-                if old.stirs(a) {
-                    let key = old.key(a);
-                    keys[i] = key;
-                    stirring[i] = true;
-                    any = true;
-                    if key > 0 {
-                        left += 1;
-                        if is_before(1, key, best) {
-                            place = i;
-                            best = key;
-                        }
-                    }
+                if old.due(a) {
+                    self.slots[i] = old.stirred();
+                    let message = old.message;
+                    let bytes = message.all_bytes();
+                    at += write_record(&mut out[at..], old.stream, bytes, message.len);
+                } else if old.stirs(a) {
+                    self.slots[i] = old.stirred();
                 }
-            }
-        }
-        if !any {
-            return Delivered {
-                node: self,
-                reply: Reply::Done,
-                written: 0,
-            };
-        }
-        // The records of the due slots, each after the one before; its key is then taken out.
-        let mut at: usize = 0;
-        let mut from: u64 = 1;
-        while place < Node::SLOTS {
-            let slot = self.slots[place];
-            let message = slot.message;
-            let bytes = message.all_bytes();
-            at += write_record(&mut out[at..], slot.stream, bytes, message.len);
-            from = wide32(slot.stream.0) + 2;
-            keys[place] = 0;
-            left -= 1;
-            place = Node::SLOTS;
-            if left > 0 {
-                place = least(&keys, from);
-            }
-        }
-        // The slots that stir, after the tick.
-        let mut j: usize = Node::SLOTS;
-        while j > 0 {
-            j -= 1;
-            if stirring[j] {
-                let slot = self.slots[j];
-                self.slots[j] = slot.stirred();
             }
         }
         Delivered {

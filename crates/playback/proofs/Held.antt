@@ -1,13 +1,13 @@
 -- How many messages a node holds: none after set up, one more at most when a frame was heard, and fewer after the tick that ends the quiet.
 use mathlib.Core.Path.{_≡_, refl, ap, subst, _∙_}
-use mathlib.Core.Bool.{Bool, true, false, cond}
+use mathlib.Core.Bool.{Bool, true, false, cond, _||_}
 use mathlib.Core.Logic.{_⊎_, inl, inr}
 use mathlib.Core.List.{List, [], _∷_, _++_, map}
 use Prim.Native.Nat.{ℕ, suc, _+_, _-_, _≤_, _<_, min}
 use native.Mathlib.Nat.{min-eq-left, min-eq-right, le-of-lt}
 use native.Mathlib.Omega.{arith}
 use borrow.Author.Tests.{leb-true, leb-false}
-use lib.Dec.{leb}
+use lib.Dec.{leb, ltb}
 use lib.ListN.{length, replicate-append-replicate}
 use Rattle.wire.specs.declared.ids.Stream.{Stream}
 use Rattle.wire.specs.declared.ids.BusId.{BusId}
@@ -16,7 +16,7 @@ use Rattle.node.specs.declared.slots.Slot.{Slot}
 use Rattle.node.specs.declared.Node.{Node}
 use Rattle.node.specs.Slots.{noMessage, released, abortPending, slotFor, isFree, withParts, withMessage, onFirst}
 use Rattle.node.specs.Nodes.{Outcome}
-use Rattle.node.specs.SetUp.{setUp}
+use Rattle.node.specs.SetUp.{lessFree, inPlace, setUp}
 use Rattle.node.specs.Hear.{hear}
 use Rattle.node.specs.Tick.{lapsed, late, due, holdOver, ageOf, tickSlot, tickRoom, tick}
 use Rattle.node.specs.Clock.{unbounded}
@@ -162,18 +162,27 @@ heard-held id dlc payload output n =
     by-case (λ (o : Outcome). (heldIn (o .node .slots) ≤ heldIn (n .slots) + 1) × (o .node .counter ≡ n .counter)) (λ r why. (omega arith, refl))
     (λ facts. (on-first-held _ _ (n .slots), refl)) (hear-cases id dlc payload output n .case)
 
-first-free-held : (s : Stream) (x : Settings) (xs : List Slot) → heldIn (onFirst isFree (λ y. slotFor s x) xs) ≤ heldIn xs
-unfolding onFirst
-first-free-held s x [] = omega arith
-first-free-held s x (y ∷ ys) = go (first-free-held s x ys) (isFree y)
+without-free-held : (ys : List Slot) → heldIn (lessFree ys) ≤ heldIn ys
+unfolding lessFree
+without-free-held [] = omega arith
+without-free-held (y ∷ ys) = go (without-free-held ys) (isFree y)
   where
-    go : heldIn (onFirst isFree (λ z. slotFor s x) ys) ≤ heldIn ys → (t : Bool)
-        → heldIn (cond t (slotFor s x ∷ ys) (y ∷ onFirst isFree (λ z. slotFor s x) ys)) ≤ heldIn (y ∷ ys)
+    go : heldIn (lessFree ys) ≤ heldIn ys → (t : Bool) → heldIn (cond t ys (y ∷ lessFree ys)) ≤ heldIn (y ∷ ys)
     go behind true = omega arith
+    go behind false = omega (arith, behind)
+
+in-place-held : (s : Stream) (x : Settings) (xs : List Slot) → heldIn (inPlace (slotFor s x) xs) ≤ heldIn xs
+unfolding inPlace
+in-place-held s x [] = omega arith
+in-place-held s x (y ∷ ys) = go (in-place-held s x ys) (isFree y || ltb (s .0) (y .stream .0))
+  where
+    go : heldIn (inPlace (slotFor s x) ys) ≤ heldIn ys → (t : Bool)
+        → heldIn (cond t (slotFor s x ∷ lessFree (y ∷ ys)) (y ∷ inPlace (slotFor s x) ys)) ≤ heldIn (y ∷ ys)
+    go behind true = omega (arith, without-free-held (y ∷ ys))
     go behind false = omega (arith, behind)
 
 pub set-up-held : (s : Stream) (x : Settings) (n : Node)
     → (heldIn (setUp s x n .node .slots) ≤ heldIn (n .slots)) × (setUp s x n .node .counter ≡ n .counter)
 set-up-held s x n =
     by-case (λ (o : Outcome). (heldIn (o .node .slots) ≤ heldIn (n .slots)) × (o .node .counter ≡ n .counter)) (λ r why. (omega arith, refl))
-    (λ facts. (first-free-held s x (n .slots), refl)) (set-up-cases s x n .case)
+    (λ facts. (in-place-held s x (n .slots), refl)) (set-up-cases s x n .case)

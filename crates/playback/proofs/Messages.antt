@@ -20,7 +20,7 @@ use Rattle.node.specs.declared.slots.Slot.{Slot}
 use Rattle.node.specs.Slots.{payloadOf}
 use Rattle.node.specs.Nodes.{slotOf, Outcome}
 use Rattle.node.specs.Hear.{deliveredAtOnce, hearRefusals}
-use Rattle.node.specs.Tick.{due, ageOf, place, dueSlots, recordsFrom, tick}
+use Rattle.node.specs.Tick.{due, ageOf, dueSlots, recordsFrom, tick}
 use Rattle.node.specs.Clock.{Clock, unbounded}
 use Rattle.node.specs.Reachable.{KeptSlot, All}
 use Rattle.node.proofs.Cases.{Refuses, by-case}
@@ -53,22 +53,13 @@ kept-is-good now x k = (by (x .used) refl, omega (arith, length-take (x .message
     by false e = rw (k .free e) (omega arith)
     by true e = omega (arith, legal-tells (x .stream) (x .settings) .says (k .lawful e) .stream)
 
-all-placed : (x : Slot) (ys : List Slot) → Good x → All Good ys → All Good (place x ys)
-all-placed x [] g gs = (g, tt)
-all-placed x (y ∷ ys) g (h, hs) = by (all-placed x ys g hs) (ltb (y .stream .0) (x .stream .0)) (eqb (x .stream .0) (y .stream .0))
-  where
-    by : All Good (place x ys) → (below same : Bool) → All Good (cond below (y ∷ place x ys) (cond same (x ∷ ys) (x ∷ y ∷ ys)))
-    by later true same = (h, later)
-    by later false true = (g, hs)
-    by later false false = (g, (h, hs))
-
 all-due : (clock : Clock) (now : ℕ) (xs : List Slot) → All Good xs → All Good (dueSlots clock now xs)
 unfolding dueSlots
 all-due clock now [] gs = tt
 all-due clock now (x ∷ xs) (g, gs) = by (all-due clock now xs gs) (due (ageOf clock now x) x)
   where
-    by : All Good (dueSlots clock now xs) → (t : Bool) → All Good (cond t (place x (dueSlots clock now xs)) (dueSlots clock now xs))
-    by later true = all-placed x (dueSlots clock now xs) g later
+    by : All Good (dueSlots clock now xs) → (t : Bool) → All Good (cond t (x ∷ dueSlots clock now xs) (dueSlots clock now xs))
+    by later true = (g, later)
     by later false = later
 
 all-writable : (xs : List Slot) → All Good xs → Writable (map messageOf xs)

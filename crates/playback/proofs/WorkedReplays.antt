@@ -26,7 +26,7 @@ use Rattle.heard.proofs.WrittenThenRead.{every-recording-is-read}
 use Rattle.node.specs.declared.Node.{Node}
 use Rattle.node.specs.Nodes.{Outcome, fresh}
 use Rattle.node.specs.Slots.{sameBytes, first, onFirst, some}
-use Rattle.node.specs.SetUp.{setUp}
+use Rattle.node.specs.SetUp.{lessFree, inPlace, setUp}
 use Rattle.node.specs.Hear.{heardBy, deliveredAtOnce, hear}
 use Rattle.node.specs.Tick.{late, due, holdOver, lapsed, dueSlots, recordsFrom, tick}
 use Rattle.node.specs.Request.{request, requested}
@@ -131,10 +131,10 @@ all-so (r ∷ rs) short =
     rw (played-so (r .settings) (r .recording) (ltb-true _ _ (both .0)), all-so rs (both .1))
 
 pub replayed-as-worked : ReplayedAsWorked
-unfolding rows step towards tickStep hearStep quietIn withSlot gapFrom heardAt countBytes recordOf setUp hear heardBy deliveredAtOnce tick
-    late due holdOver lapsed dueSlots recordsFrom delivered.recordOf legal badFrame carries first onFirst some sameBytes delivered.recordAt
+unfolding rows step towards tickStep hearStep quietIn withSlot gapFrom heardAt countBytes recordOf setUp inPlace lessFree hear heardBy
+    deliveredAtOnce tick late due holdOver lapsed dueSlots recordsFrom delivered.recordOf legal badFrame carries first onFirst some sameBytes delivered.recordAt
 replayed-as-worked = all-so rows refl ∙ refl
 
 pub quiet-as-worked : QuietAsWorked
-unfolding stretches quietIn withSlot setUp hear heardBy deliveredAtOnce request requested legal badFrame carries first onFirst some sameBytes
+unfolding stretches quietIn withSlot setUp inPlace lessFree hear heardBy deliveredAtOnce request requested legal badFrame carries first onFirst some sameBytes
 quiet-as-worked = refl

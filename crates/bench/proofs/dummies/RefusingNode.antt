@@ -4,19 +4,17 @@ use mathlib.Core.Path.{_≡_, refl}
 use mathlib.Core.Bool.{Bool, true, false, cond, and-eq-true-iff}
 use mathlib.Core.List.{List, [], _∷_}
 use Rattle.wire.specs.declared.ids.Stream.{Stream}
-use Rattle.wire.specs.declared.ids.BusId.{BusId}
 use Rattle.wire.specs.declared.settings.Settings.{Settings}
-use Rattle.wire.specs.Identifiers.{streamOf, codeOf}
+use Rattle.wire.specs.Identifiers.{codeOf}
 use Rattle.node.specs.declared.slots.Slot.{Slot}
 use Rattle.node.specs.declared.Node.{Node}
-use Rattle.node.specs.Slots.{slotFor, noMessage, released, abortPending, empty, isFree, isOf, isReceiver, isSender, withParts, withMessage}
+use Rattle.node.specs.Slots.{slotFor, noMessage, released, abortPending, empty, first, isOf, isReceiver, isSender, withParts, withMessage}
 use Rattle.node.specs.Nodes.{fresh, slotCount, slotOf, Outcome}
 use Rattle.node.specs.Reachable.{All}
 use Rattle.node.specs.Clock.{Clock, unbounded}
 use Rattle.node.specs.SetUp.{setUp}
 use Rattle.node.specs.Request.{request, requested}
-use Rattle.node.specs.NextFrame.{nextFrame, give, givenOut, pendingIds}
-use Rattle.node.specs.Selection.{lowestOrAbove}
+use Rattle.node.specs.NextFrame.{nextFrame, give, givenOut, hasFrame, lowestFrame, lowestGiven}
 use Rattle.node.specs.Tick.{late, due, holdOver, lapsed, tick, ageOf, tickSlot, dueSlots}
 use Rattle.node.specs.Calls.{afterFrom}
 use Rattle.node.proofs.Choices.{contrary, refuted}
@@ -26,6 +24,7 @@ use Rattle.node.proofs.tick.Cases.{tick-cases}
 use Rattle.node.proofs.request.Cases.{request-cases}
 use Rattle.node.proofs.next_frame.Cases.{next-cases}
 use Rattle.node.proofs.slots.Table.{all-map, all-replicate, all-on-first}
+use Rattle.node.proofs.slots.InOrder.{all-in-place}
 use Rattle.node.proofs.tick.Tests.{due-tells}
 use Rattle.node.proofs.kept.EachSlot.{not-sender}
 use Rattle.bench.specs.SetUp.{Part, setUps}
@@ -83,7 +82,7 @@ module _ (n : Node) (k : NoneHeld n) where
   pub none-set-up : (s : Stream) (settings : Settings) → NoneHeld (setUp s settings n .node)
   none-set-up s settings =
       by-case (λ (o : Outcome). NoneHeld (o .node)) (λ r why. k)
-      (λ h. all-on-first Unheld isFree (λ x. slotFor s settings) (n .slots) k (λ free u r. refl)) (set-up-cases s settings n .case)
+      (λ h. all-in-place Unheld (slotFor s settings) (λ r. refl) (n .slots) k) (set-up-cases s settings n .case)
 
   pub none-request : (s : Stream) (payload : List ℕ) → NoneHeld (request s payload n .node)
   none-request s payload =
@@ -95,10 +94,9 @@ module _ (n : Node) (k : NoneHeld n) where
   pub none-next-frame : (output : List ℕ) → NoneHeld (nextFrame output n .node)
   unfolding give
   none-next-frame output =
-      let id : BusId = record { 0 = lowestOrAbove (pendingIds (n .slots)) } in
       by-case (λ (o : Outcome). NoneHeld (o .node)) (λ r why. k)
-      (λ h. all-on-first Unheld (isOf (streamOf id)) (givenOut (codeOf id)) (n .slots) k
-      (λ here u. unheld-given-out (codeOf id) (slotOf (streamOf id) n) u))
+      (λ h. let x = first hasFrame (n .slots) in
+      all-on-first Unheld hasFrame lowestGiven (n .slots) k (λ here u. unheld-given-out (codeOf (lowestFrame x)) x u))
       (next-cases output n .case)
 
   pub none-tick : (clock : Clock) (output : List ℕ) → NoneHeld (tick clock output n .node)

@@ -17,10 +17,10 @@ use Rattle.bench.specs.Rules.{may}
 -- `unfolding computing` opens every definition that a history computes with
 unfoldable pub computing : Bool
 unfolding
-    legal badFrame carries recordOf sameBytes first onFirst some setting-up.setUp
+    legal badFrame carries recordOf sameBytes first onFirst some setting-up.setUp setting-up.inPlace setting-up.lessFree
     hearing.heardBy hearing.deliveredAtOnce hearing.hear
     ticking.late ticking.due ticking.holdOver ticking.lapsed ticking.dueSlots ticking.recordsFrom ticking.tick
     requesting.requested requesting.request
-    giving.pendingIn giving.pendingIds giving.lowest giving.givenOut giving.payloadFor giving.give giving.nextFrame
+    giving.pendingIn giving.lowest giving.givenOut giving.payloadFor giving.give giving.nextFrame
     proper start step may
 computing = true

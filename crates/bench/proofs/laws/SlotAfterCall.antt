@@ -20,10 +20,11 @@ use Rattle.wire.specs.Settings.{receives, sends, isPlain}
 use Rattle.node.specs.Calls.{hear, tick, request, nextFrame, outcome}
 use Rattle.node.specs.Clock.{unbounded}
 use Rattle.node.specs.Hear.{clashes, heardBy, deliveredAtOnce}
-use Rattle.node.specs.NextFrame.{one, idsFrom, pendingCodes, pendingIds, pendingIn, payloadCode, give, givenOut, payloadFor}
-use Rattle.node.specs.Selection.{lowestOrAbove}
+use Rattle.node.specs.NextFrame.{one, idsFrom, pendingCodes, pendingIn, payloadCode, hasFrame, lowestFrame, lowestGiven, give, givenOut, payloadFor}
+use Rattle.node.specs.OldLayout.{pendingIds, giveById}
+use Rattle.node.specs.SlotOrder.{Distinct}
 use Rattle.node.specs.Nodes.{slotOf, onSlot, Outcome}
-use Rattle.node.specs.Reachable.{KeptSlot, All, Distinct, Kept}
+use Rattle.node.specs.Reachable.{KeptSlot, All, InOrder, Kept}
 use Rattle.node.specs.Request.{requested}
 use Rattle.node.specs.Slots.{empty, payloadOf, isReceiver, isOf, first, onFirst, some}
 use Rattle.node.specs.Tick.{late, due, tickSlot, dueSlots, ticked}
@@ -38,8 +39,10 @@ use Rattle.node.proofs.next_frame.Cases.{next-cases}
 use Rattle.node.proofs.tick.Ascending.{Before, Ascends, due-ascend, only-due, due-of-stream}
 use Rattle.node.proofs.kept.EachSlot.{kept-empty}
 use Rattle.node.proofs.tick.Tests.{Due, late-tells, due-tells}
-use Rattle.node.proofs.next_frame.Lowest.{lowest-is-one}
-use Rattle.node.proofs.slots.Streams.{Kind, KeepsKind, heard-keeps, requested-keeps, given-out-keeps, slot-of-changed, slot-of-ticked}
+use Rattle.node.proofs.next_frame.Lowest.{lowestOrAbove, lowest-is-one}
+use Rattle.node.proofs.slots.InOrder.{in-order-distinct}
+use Rattle.node.proofs.slot_order.NextFrameInOrder.{giver, giver-of-stream, next-by-id-cases}
+use Rattle.node.proofs.slots.Streams.{Kind, KeepsKind, heard-keeps, requested-keeps, given-out-keeps, lowest-given-keeps, slot-of-changed, slot-of-ticked}
 use Rattle.node.proofs.slots.Table.{all-weaken, all-first}
 use Rattle.one_stream.proofs.Truth.{cond-elim, cond-true, cond-false, and-l, and-r, both, is-true, is-false, so, not-so}
 use Rattle.bench.specs.Bench.{Delivery, sameStream, now}
@@ -75,6 +78,18 @@ module _ (f : Slot → Slot) (keeps : KeepsKind f) where
           → first (isOf s) (cond b (f x ∷ xs) (x ∷ onFirst (isOf z) f xs)) ≡ cond (isOf s x) x (first (isOf s) xs)
       go true not-s rest = rw (is-of-kind s f keeps x, not-s tt) refl
       go false not-s rest = ap (cond (isOf s x) x) rest
+
+  -- whatever the test, if the slot that it finds is of another stream
+  first-elsewhere : (test : Slot → Bool) (s : Stream) (xs : List Slot) → isOf s (first test xs) ≡ false
+      → first (isOf s) (onFirst test f xs) ≡ first (isOf s) xs
+  unfolding first onFirst
+  first-elsewhere test s [] other = refl
+  first-elsewhere test s (x ∷ xs) other = go (test x) other (first-elsewhere test s xs)
+    where
+      go : (t : Bool) → isOf s (cond t x (first test xs)) ≡ false → (isOf s (first test xs) ≡ false → first (isOf s) (onFirst test f xs) ≡ first (isOf s) xs)
+          → first (isOf s) (cond t (f x ∷ xs) (x ∷ onFirst test f xs)) ≡ cond (isOf s x) x (first (isOf s) xs)
+      go true not-s rest = rw (is-of-kind s f keeps x, not-s) refl
+      go false not-s rest = ap (cond (isOf s x) x) (rest not-s)
 
 -- a slot that was found is of the stream, if it is in use
 found : (s : Stream) (xs : List Slot) → T (first (isOf s) xs .used) → T (isOf s (first (isOf s) xs))
@@ -347,19 +362,20 @@ module _ (n : Node) (k : Kept n) (given : T (isDone (giving n .reply))) where
   abbrev low : ℕ
   low = lowestOrAbove (pendingIds (n .slots))
 
-  gave-low : (giving n ≡ give (record { 0 = low }) n) × (low ≤ maxBusId)
+  gave-low : (giving n ≡ giveById (record { 0 = low }) n) × (low ≤ maxBusId)
   gave-low =
-      by-case (λ (o : Outcome). T (isDone (o .reply)) → (o ≡ give (record { 0 = low }) n) × (low ≤ maxBusId))
-      (λ r why done. absurd (not-so (next-cases lent n .not-done r why) done)) (λ h done. (refl, h .pending)) (next-cases lent n .case) given
+      let law = next-by-id-cases lent n (k .in-order) in
+      by-case (λ (o : Outcome). T (isDone (o .reply)) → (o ≡ giveById (record { 0 = low }) n) × (low ≤ maxBusId))
+      (λ r why done. absurd (not-so (law .not-done r why) done)) (λ h done. (refl, h .pending)) (law .case) given
 
-  gave : giving n ≡ give (record { 0 = low }) n
+  gave : giving n ≡ giveById (record { 0 = low }) n
   gave = gave-low .0
 
   low-small : low ≤ maxBusId
   low-small = gave-low .1
 
   where-pending : PendingIn low (n .slots)
-  where-pending = pending-in low (n .slots) (k .distinct) (lowest-is-one (pendingIds (n .slots)) low-small)
+  where-pending = pending-in low (n .slots) (in-order-distinct (n .slots) (k .in-order)) (lowest-is-one (pendingIds (n .slots)) low-small)
 
   abbrev next-stream : Stream
   next-stream = streamOf (giving n .id)
@@ -368,7 +384,7 @@ module _ (n : Node) (k : Kept n) (given : T (isDone (giving n .reply))) where
   next-code = codeOf (giving n .id)
 
   id-is : giving n .id ≡ record { 0 = low }
-  unfolding give
+  unfolding giveById
   id-is = ap (λ (o : Outcome). o .id) gave
 
   pub next-used : T (slotOf next-stream n .used)
@@ -378,7 +394,7 @@ module _ (n : Node) (k : Kept n) (given : T (isDone (giving n .reply))) where
   next-pending = subst (λ (id : BusId). IsPending (slotOf (streamOf id) n) (codeOf id)) (sym id-is) (where-pending .pending)
 
   pub next-own : slotOf next-stream (giving n .node) ≡ givenOut next-code (slotOf next-stream n)
-  unfolding give
+  unfolding giveById
   next-own =
       subst (λ (id : BusId). slotOf (streamOf id) (giving n .node) ≡ givenOut (codeOf id) (slotOf (streamOf id) n)) (sym id-is)
       (ap (λ (o : Outcome). slotOf (record { 0 = low / 4 }) (o .node)) gave
@@ -386,7 +402,7 @@ module _ (n : Node) (k : Kept n) (given : T (isDone (giving n .reply))) where
       (is-true (slotOf (record { 0 = low / 4 }) n .used) (where-pending .used)))
 
   pub next-bytes : giving n .bytes ≡ payloadFor next-code (slotOf next-stream n)
-  unfolding give
+  unfolding giveById
   next-bytes =
       subst (λ (id : BusId). giving n .bytes ≡ payloadFor (codeOf id) (slotOf (streamOf id) n)) (sym id-is)
       (ap (λ (o : Outcome). o .bytes) gave)
@@ -395,10 +411,11 @@ pub next-other : (s : Stream) (n : Node) → (Same s (streamOf (giving n .id)) �
 unfolding give
 next-other s n =
     by-case (λ (o : Outcome). (Same s (streamOf (o .id)) → ⊥) → slotOf s (o .node) ≡ slotOf s n) (λ r why other. refl)
-    (λ h other. first-other (givenOut (codeOf (id n))) (given-out-keeps (codeOf (id n))) s (streamOf (id n)) other (n .slots)) (next-cases lent n .case)
-  where
-    id : Node → BusId
-    id n = record { 0 = lowestOrAbove (pendingIds (n .slots)) }
+    (λ h other.
+    let x = giver n in
+    first-elsewhere lowestGiven lowest-given-keeps hasFrame s (n .slots)
+    (not-of-both s (streamOf (lowestFrame x)) other x (so (giver-of-stream n (h .pending)))))
+    (next-cases lent n .case)
 
 pub next-counter : (n : Node) → giving n .node .counter ≡ n .counter
 unfolding give
@@ -438,13 +455,13 @@ keep-one s (x ∷ xs) a used = go (ofStream s x) refl (keep-one s xs (a .1) (use
         ∙ sym (ap (λ (y : Slot). cond (y .used) (y ∷ []) [])
         (cond-false (x .used && ofStream s x) x (first (isOf s) xs) (λ t. not-so e (and-r (x .used) (ofStream s x) t))))
 
-own-due : (now : ℕ) (s : Stream) (xs : List Slot) → Distinct xs → (let x = first (isOf s) xs in
+own-due : (now : ℕ) (s : Stream) (xs : List Slot) → InOrder xs → (let x = first (isOf s) xs in
     keepSlots s (dueSlots unbounded now xs) ≡ cond (due (now - x .message .stamp) x) (x ∷ []) [])
-own-due now s xs d =
-    keep-one s (dueSlots unbounded now xs) (due-ascend unbounded now xs)
+own-due now s xs h =
+    keep-one s (dueSlots unbounded now xs) (due-ascend unbounded now xs h)
     (all-weaken (λ x. Due (now - x .message .stamp) x) (λ x. x .used ≡ true) (λ x e. e .used) (dueSlots unbounded now xs)
     (only-due unbounded now xs))
-    ∙ (ap (λ (y : Slot). cond (y .used) (y ∷ []) []) (due-of-stream unbounded now s xs d) ∙ go (due (now - x .message .stamp) x) refl)
+    ∙ (ap (λ (y : Slot). cond (y .used) (y ∷ []) []) (due-of-stream unbounded now s xs (in-order-distinct xs h)) ∙ go (due (now - x .message .stamp) x) refl)
   where
     x : Slot
     x = first (isOf s) xs
@@ -487,7 +504,7 @@ tick-delivers s n k log =
     onto-stream s (deliveries unbounded n) log
     ∙ (ap (λ ds. onto ds (onStream s log))
     (stream-deliveries s (n .counter + 1) (dueSlots unbounded (n .counter + 1) (n .slots))
-    ∙ ap (map (deliveryOf (n .counter + 1))) (own-due (n .counter + 1) s (n .slots) (k .distinct)))
+    ∙ ap (map (deliveryOf (n .counter + 1))) (own-due (n .counter + 1) s (n .slots) (k .in-order)))
     ∙ go (due (n .counter + 1 - slotOf s n .message .stamp) (slotOf s n)))
   where
     go : (b : Bool) → onto (map (deliveryOf (n .counter + 1)) (cond b (slotOf s n ∷ []) [])) (onStream s log)

@@ -22,6 +22,8 @@ use Rattle.node.specs.Slots.{slotFor, isReceiver, isSender, isFree, isOf, empty
 use Rattle.node.proofs.Choices.{neither}
 use Rattle.node.proofs.Cases.{by-case}
 use Rattle.node.proofs.set_up.Cases.{SetUpFacts, set-up-cases}
+use Rattle.node.proofs.set_up.TheSlot.{other-stays, own-is-found}
+use Rattle.node.specs.SetUp.{inPlace}
 use Rattle.node.proofs.kept.EveryCall.{kept}
 use Rattle.one_stream.proofs.Truth.{cond-elim, and-l, and-r, both, or-l, or-r, decide, is-true, is-false, so}
 use Rattle.bench.specs.Bench.{Bench, Ledger, noBook, noModule, moduleAt, slotAt, booksIn, booksOf, frameOf, sameStream}
@@ -39,38 +41,6 @@ use Rattle.node.specs.SetUp as SetUp
 use Rattle.wire.specs.Settings as wire
 
 -- ── setting up a stream ──
--- the first slot of a stream, where a free slot was taken for one
-taken-other : (s z : Stream) (set : Settings) → (Same s z → ⊥) → (xs : List Slot)
-    → first (isOf s) (onFirst isFree (λ x. slotFor z set) xs) ≡ first (isOf s) xs
-unfolding first onFirst
-taken-other s z set other [] = refl
-taken-other s z set other (x ∷ xs) = go (x .used) refl (taken-other s z set other xs)
-  where
-    not-s : eqb (z .0) (s .0) ≡ false
-    not-s = is-false (eqb (z .0) (s .0)) (λ t. other (sym (eqb→eq (z .0) (s .0) t)))
-
-    go : (u : Bool) → x .used ≡ u → first (isOf s) (onFirst isFree (λ x. slotFor z set) xs) ≡ first (isOf s) xs
-        → first (isOf s) (cond (not u) (slotFor z set ∷ xs) (x ∷ onFirst isFree (λ x. slotFor z set) xs)) ≡ cond
-        (x .used && eqb (x .stream .0) (s .0)) x (first (isOf s) xs)
-    go true e rest = ap (cond (x .used && eqb (x .stream .0) (s .0)) x) rest
-    go false e rest = rw (e, not-s) refl
-
-taken-own : (s : Stream) (set : Settings) (xs : List Slot) → some (isOf s) xs ≡ false → T (some isFree xs)
-    → first (isOf s) (onFirst isFree (λ x. slotFor s set) xs) ≡ slotFor s set
-unfolding first onFirst some
-taken-own s set [] none free = absurd free
-taken-own s set (x ∷ xs) none free =
-    go (x .used) (neither (isOf s x) (some (isOf s) xs) none .0) free (taken-own s set xs (neither (isOf s x) (some (isOf s) xs) none .1))
-  where
-    own : eqb (s .0) (s .0) ≡ true
-    own = is-true (eqb (s .0) (s .0)) (eqb-refl (s .0))
-
-    go : (u : Bool) → isOf s x ≡ false → T (not u || some isFree xs)
-        → (T (some isFree xs) → first (isOf s) (onFirst isFree (λ x. slotFor s set) xs) ≡ slotFor s set)
-        → first (isOf s) (cond (not u) (slotFor s set ∷ xs) (x ∷ onFirst isFree (λ x. slotFor s set) xs)) ≡ slotFor s set
-    go true e f rest = rw e (rest f)
-    go false e f rest = rw own refl
-
 -- a slot of a stream is as it was, or was just set up
 pub data SetSlot (s : Stream) (z : Stream) (set : Settings) (before : Slot) : Slot → Type 0 where
   stays : SetSlot s z set before before
@@ -81,13 +51,15 @@ set-slot s z set n =
     by-case (λ (o : Outcome). SetSlot s z set (slotOf s n) (slotOf s (o .node))) (λ r why. stays) (λ h. taken h (decide-stream s z))
     (set-up-cases z set n .case)
   where
-    taken : SetUpFacts z set n → (s ≡ z) ⊎ (Same s z → ⊥)
-        → SetSlot s z set (slotOf s n) (first (isOf s) (onFirst isFree (λ x. slotFor z set) (n .slots)))
-    taken h (inr other) = subst (SetSlot s z set (slotOf s n)) (sym (taken-other s z set other (n .slots))) stays
+    taken : SetUpFacts z set n → (s ≡ z) ⊎ (Same s z → ⊥) → SetSlot s z set (slotOf s n) (first (isOf s) (inPlace (slotFor z set) (n .slots)))
+    taken h (inr other) =
+        let not-s = is-false (eqb (z .0) (s .0)) (λ t. other (sym (eqb→eq (z .0) (s .0) t))) in
+        subst (SetSlot s z set (slotOf s n)) (sym (other-stays s (slotFor z set) not-s (n .slots))) stays
     taken h (inl e) =
-        subst (λ y. SetSlot s z set (slotOf s n) (first (isOf s) (onFirst isFree (λ x. slotFor y set) (n .slots)))) e
-        (subst (SetSlot s z set (slotOf s n))
-        (sym (taken-own s set (n .slots) (subst (λ y. some (isOf y) (n .slots) ≡ false) (sym e) (h .new)) (so (h .room)))) (isSet (sym e)))
+        let own = is-true (eqb (s .0) (s .0)) (eqb-refl (s .0)) in
+        let new = subst (λ y. some (isOf y) (n .slots) ≡ false) (sym e) (h .new) in
+        subst (λ y. SetSlot s z set (slotOf s n) (first (isOf s) (inPlace (slotFor y set) (n .slots)))) e
+        (subst (SetSlot s z set (slotOf s n)) (sym (own-is-found s (slotFor s set) own (n .slots) new (h .room))) (isSet (sym e)))
 
 -- ── the slots of a module after set up ──
 abbrev pub In : Entry → Part → Type 0

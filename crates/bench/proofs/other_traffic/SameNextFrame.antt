@@ -18,10 +18,10 @@ use Rattle.node.specs.declared.Node.{Node}
 use Rattle.node.specs.Slots.{isOf, first}
 use Rattle.node.specs.Nodes.{slotOf}
 use Rattle.node.specs.Reachable.{Kept}
-use Rattle.node.specs.NextFrame.{one, idsFrom, payloadCode, pendingCodes, pendingIn, pendingIds, payloadFor, give}
-use Rattle.node.specs.Selection.{lowestOrAbove}
-use Rattle.node.proofs.next_frame.Lowest.{lowest-append}
-use Rattle.node.proofs.next_frame.Cases.{next-cases}
+use Rattle.node.specs.NextFrame.{one, idsFrom, payloadCode, pendingCodes, pendingIn, payloadFor}
+use Rattle.node.specs.OldLayout.{pendingIds, giveById}
+use Rattle.node.proofs.next_frame.Lowest.{lowestOrAbove, lowest-append}
+use Rattle.node.proofs.slot_order.NextFrameInOrder.{next-by-id-cases}
 use Rattle.one_stream.proofs.Truth.{cond-elim, and-r, both, is-true, so}
 use Rattle.bench.specs.SetUp.{isDone}
 use Rattle.bench.specs.Events.{lent}
@@ -95,12 +95,12 @@ module _ (s : Stream) (n : Node) (k : Kept n) where
 
   -- where a frame is pending, there is a next frame, and it is no higher
   pub lowest-given : {c : ℕ} → T (slotOf s n .used) → IsPending (slotOf s n) c → T (isDone (giving n .reply)) × (giving n .id .0 ≤ s .0 * 4 + c)
-  unfolding give
+  unfolding giveById
   lowest-given {c} used p =
       let low = lowest-in-table s (stream-small used) (n .slots) used p in
       let small = stream-small used in
       let code = small-code (slotOf s n) p in
-      let gave = next-cases lent n .accepted-if (record { room = ltb-false 512 8 refl; pending = omega arith }) in
+      let gave = next-by-id-cases lent n (k .in-order) .accepted-if (record { room = ltb-false 512 8 refl; pending = omega arith }) in
       rw gave (tt, low)
 
 -- ── two nodes ──

@@ -152,8 +152,8 @@ module _ (timed : Stream → Bool) where
     in-order : InOrder (m .log)
     until : Until (m .node .counter) (m .log)
 
-  tick-in-order : (m : Module) → Orderly m → Orderly (ticked unbounded m)
-  tick-in-order m o = cond-elim Orderly (m .live) (λ live. after) (λ dead. o)
+  tick-in-order : (m : Module) → Kept (m .node) → Orderly m → Orderly (ticked unbounded m)
+  tick-in-order m k o = cond-elim Orderly (m .live) (λ live. after) (λ dead. o)
     where
       n : Node
       n = m .node
@@ -168,7 +168,7 @@ module _ (timed : Stream → Bool) where
       after =
           record {
             in-order =
-                delivered-in-order t dues (m .log) (due-ascend unbounded t (n .slots))
+                delivered-in-order t dues (m .log) (due-ascend unbounded t (n .slots) (k .in-order))
                 (all-slots _ (λ x. all-earlier (n .counter) (deliveryOf t x) (omega arith) (m .log) (o .until)) dues) (o .in-order);
             until =
                 subst (λ c. Until c (onto (deliveries unbounded n) (m .log))) (sym (tick-counter n))
@@ -224,7 +224,7 @@ module _ (timed : Stream → Bool) where
       go (sends z n w to) =
           let f = frameOf w (bookOf z n b) in
           if (m .live && named to i && not (eqb i (ownerOf w (bookOf z n b)))) _ (hear-in-order timed f m (k .apart (streamOf (f .id))) (k .orderly))
-      go ticks = tick-in-order timed m (k .orderly)
+      go ticks = tick-in-order timed m (k .kept) (k .orderly)
       go (dies j) = if (eqb i j) _ (record { in-order = k .orderly .in-order; until = k .orderly .until })
 
   keeping-run : (h : List Event) (b : Bench) (i : ℕ) → Keeping timed (moduleAt i b) → Keeping timed (moduleAt i (run b h))

@@ -5,20 +5,23 @@ use mathlib.Core.Path.{_≡_, refl, sym, ap, subst, _∙_}
 use mathlib.Core.Bool.{Bool, true, false, cond, not, _||_, and-eq-true-iff}
 use mathlib.Core.Logic.{⊎-elim}
 use mathlib.Core.List.{List, [], _∷_, _++_, List·Memᴰ, List·Memᴰ·head, List·Memᴰ·tail, List·Memᴰ·not-nil, List·Memᴰ·append-cases}
-use borrow.Author.Tests.{eqb-true, ne-eqb, leb-true, leb-false, not-true}
+use borrow.Author.Tests.{eqb-true, ne-eqb, leb-true, leb-false, ltb-false, le-ltb, not-true}
 use lib.Dec.{leb}
+use lib.ListN.{length}
 use Rattle.wire.specs.declared.ids.Stream.{Stream}
 use Rattle.wire.specs.Identifiers.{maxBusId, streamOf, codeOf}
 use Rattle.node.specs.declared.slots.Slot.{Slot}
 use Rattle.node.specs.declared.Node.{Node}
 use Rattle.node.specs.Slots.{empty, isOf, first, onFirst, some}
-use Rattle.node.specs.NextFrame.{pendingIn, isNone, lowest, givenOut, hasFrame, lowestFrame, lowestGiven, give, nextRefusals, nextFrame}
+use Rattle.node.specs.NextFrame.{pendingIn, isNone, lowest, nextRoom, givenOut, hasFrame, lowestFrame, lowestGiven, give, nextRefusals, nextFrame}
 use Rattle.node.specs.OldLayout.{pendingIds, giveById, nextByIdRefusals, nextById}
-use Rattle.node.specs.Nodes.{unlessRefused}
+use Rattle.node.specs.Nodes.{Outcome, unlessRefused}
 use Rattle.node.specs.Reachable.{All, After, InOrder}
 use Rattle.node.proofs.Choices.{contrary}
 use Rattle.node.proofs.slots.Table.{all-first}
-use Rattle.node.proofs.next_frame.Lowest.{lowestOrAbove, lowest-at-most, lowest-append, none-lower, lowest-is-one, lowest-among, none-in-empty, some-has-frame, pending-from-slot, by-lowest, next-by-lowest}
+use Rattle.node.proofs.Cases.{Cases, cases}
+use Rattle.node.proofs.next_frame.Lowest.{lowestOrAbove, lowest-at-most, lowest-append, none-lower, lowest-is-one, lowest-among, none-in-empty}
+use Rattle.node.proofs.next_frame.Lowest.{some-has-frame, pending-from-slot, refusalsByLowest, by-lowest, next-by-lowest}
 
 from-later : (x : Slot) (ys : List Slot) → All (After x) ys → {i : ℕ} → List·Memᴰ i (pendingIds ys) → x .stream .0 < i / 4
 unfolding pendingIds
@@ -99,17 +102,21 @@ same-change test f g (x ∷ xs) e = arm (test x) e (same-change test f g xs)
     arm false e rest = rw (rest e)
 
 module _ (n : Node) where
-  abbrev giver : Slot
+  abbrev pub giver : Slot
   giver = first hasFrame (n .slots)
 
-  lowest-of-giver : hasFrame giver ≡ true → List·Memᴰ (lowest (pendingIn giver)) (pendingIn giver)
-  lowest-of-giver h = lowest-among (pendingIn giver) (not-true _ h)
+  -- its frame is of its stream
+  own-frame : hasFrame giver ≡ true → isOf (streamOf (lowestFrame giver)) giver ≡ true
+  own-frame frame = pending-from-slot giver (lowest-among (pendingIn giver) (not-true _ frame)) .of-stream
+
+  pub giver-of-stream : some hasFrame (n .slots) ≡ true → isOf (streamOf (lowestFrame giver)) giver ≡ true
+  giver-of-stream pending = own-frame (sym (some-has-frame (n .slots)) ∙ pending)
 
   give-in-order : InOrder (n .slots) → hasFrame giver ≡ true → give n ≡ giveById (lowestFrame giver) n
   unfolding give giveById
   give-in-order h frame =
       let id = lowestFrame giver in
-      let own = of-stream hasFrame (streamOf id) (n .slots) h (pending-from-slot giver (lowest-of-giver frame) .of-stream) in
+      let own = of-stream hasFrame (streamOf id) (n .slots) h (own-frame frame) in
       rw (own .found, own .changed (givenOut (codeOf id)), same-change hasFrame lowestGiven (givenOut (codeOf id)) (n .slots) refl)
 
 -- ── the next frame ──
@@ -128,3 +135,22 @@ next-in-order output n h =
         ≡ unlessRefused n (nextByIdRefusals output (pendingIn (giver n))) (giveById (lowestFrame (giver n)) n)
     by-giver true e = rw (some-has-frame (n .slots), e)
     by-giver false e = rw (some-has-frame (n .slots), e, give-in-order n h (ap not e))
+
+-- by cases, as in the old layout: refused, or the lowest of all is given out
+module _ (output : List ℕ) (n : Node) (h : InOrder (n .slots)) where
+  abbrev pub low : ℕ
+  low = lowestOrAbove (pendingIds (n .slots))
+
+  pub record LowestFacts : Type 0 where
+    pub room : nextRoom ≤ length output
+    pub pending : low ≤ maxBusId
+
+  abbrev pub lowestGivenOut : Outcome
+  lowestGivenOut = giveById (record { 0 = low }) n
+
+  pub next-by-id-cases : Cases n (refusalsByLowest output low) LowestFacts lowestGivenOut (nextFrame output n)
+  next-by-id-cases =
+      rw (next-in-order output n h, next-by-lowest output n)
+      (cases n (refusalsByLowest output low) lowestGivenOut refl
+      (λ (room, (pending, end)). record { room = ltb-false _ _ room; pending = ltb-false _ _ pending })
+      (λ facts. (le-ltb _ _ (facts .room), (le-ltb _ _ (facts .pending), tt))))

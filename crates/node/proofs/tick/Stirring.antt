@@ -1,16 +1,18 @@
 -- The three tests of a tick. Each fails of what is too young. A sender's hold may be over; a receiver's message is late, if
 -- it is unconfirmed in 2M, or else due.
 use mathlib.Core.Path.{_≡_, refl, _∙_}
-use mathlib.Core.Bool.{Bool, true, false, not, _&&_, _||_, and-true, and-false, or-false, and-assoc, false≢true}
+use mathlib.Core.Bool.{Bool, true, false, not, _&&_, _||_, and-true, and-false, or-true, or-false, and-assoc, false≢true}
+use mathlib.Core.List.{List, [], _∷_, map}
 use Prim.Native.Nat.{ℕ, _+_, _<_, _≤_}
 use native.Mathlib.Omega.{arith}
 use lib.Dec.{ltb}
 use borrow.Author.Tests.{lt-ltb, le-ltb, ltb-false, ne-eqb, eqb-true, eqb-false}
 use Rattle.wire.specs.Settings.{isImd, isTwoMessage, sends}
 use Rattle.node.specs.declared.slots.Slot.{Slot}
-use Rattle.node.specs.Slots.{isReceiver, isSender}
-use Rattle.node.specs.Tick.{late, due, holdOver, lapsed}
-use Rattle.node.specs.Selection.{stirs, mayStir, stirred, keyOf}
+use Rattle.node.specs.Slots.{isReceiver, isSender, some}
+use Rattle.node.specs.Clock.{Clock}
+use Rattle.node.specs.Tick.{late, due, holdOver, lapsed, ageOf, tickSlot, dueSlots}
+use Rattle.node.specs.Stirring.{stirs, mayStir, stirred}
 use Rattle.node.proofs.Choices.{neither}
 
 both-sides : (two confirmed : Bool) → two && not confirmed ≡ true → (two ≡ true) × (confirmed ≡ false)
@@ -90,6 +92,10 @@ module _ (age : ℕ) (x : Slot) where
       go false true t e = rw (stirs-waiting (eqb-false (x .settings .role) 1 t) e ∙ s, t, e)
       go false false t e = rw (ready-is-not-late e, stirs-ready (eqb-false (x .settings .role) 1 t) e ∙ s, t, e)
 
+  pub due-stirs : due age x ≡ true → stirs age x ≡ true
+  unfolding stirs
+  due-stirs e = rw e (simp or-true)
+
   unheld-is-still : x .message .held ≡ false → stirs age x ≡ false
   unfolding late due holdOver stirs
   unheld-is-still h = rw h (simp and-false)
@@ -123,6 +129,16 @@ module _ (age : ℕ) (x : Slot) where
         let m = neither (late age x) (due age x) (n .0) in
         rw (m .0, m .1, n .1)
 
-    pub still-has-no-key : keyOf age x ≡ 0
-    unfolding keyOf
-    still-has-no-key = rw still-is-not-due
+-- ── a tick at which nothing stirs ──
+module _ (clock : Clock) (now : ℕ) where
+  abbrev pub stirsAt : Slot → Bool
+  stirsAt x = stirs (ageOf clock now x) x
+
+  pub still-tick : (slots : List Slot) → some stirsAt slots ≡ false
+      → (map (tickSlot clock now) slots ≡ slots) × (dueSlots clock now slots ≡ [])
+  unfolding some dueSlots
+  still-tick [] e = (refl, refl)
+  still-tick (x ∷ xs) e =
+      let none = neither (stirsAt x) (some stirsAt xs) e in
+      let others = still-tick xs (none .1) in
+      (rw (still-stays (ageOf clock now x) x (none .0), others .0), rw (still-is-not-due (ageOf clock now x) x (none .0)) (others .1))

@@ -1,6 +1,5 @@
 -- The outcomes of a tick, from what its code did.
 use mathlib.Core.Path.{_≡_}
-use mathlib.Core.Bool.{false}
 use mathlib.Core.List.{List, map}
 use Prim.Native.Nat.{ℕ, _<_, _≤_}
 use borrow.Author.Tests.{lt-ltb}
@@ -9,7 +8,6 @@ use Rattle.wire.specs.declared.reply.Reply.the-variants.{Done, ShortOutput}
 use Rattle.wire.specs.Delivered.{over}
 use Rattle.node.specs.declared.Node.{Node}
 use Rattle.node.specs.declared.Delivered.{Delivered}
-use Rattle.node.specs.Slots.{some}
 use Rattle.node.specs.Nodes.{done, asDelivered}
 use Rattle.node.specs.Clock.{Clock, rolled}
 use Rattle.node.specs.Tick.{tickRoom, tickSlot, dueSlots, recordsFrom, ticked, tick}
@@ -17,7 +15,6 @@ use Rattle.node.specs.Calls.{Call}
 use Rattle.node.proofs.Cases.{here}
 use Rattle.node.proofs.tick.Cases.{tick-cases}
 use Rattle.node.proofs.rollover.Promises.{PromisedWritten, promised-exact}
-use Rattle.node.proofs.tick.Loops.{stirsAt, still-tick}
 
 -- the answer, and what stands in the output, are those of the definition
 abbrev pub Ticked : Clock → Node → (output : List ℕ) → Delivered → (left : List ℕ) → Type 0
@@ -42,10 +39,3 @@ module _ (clock : Clock) (n : Node) (output : List ℕ) where
         → (written ≡ length (recordsFrom (dueSlots clock now (n .slots)))) × (left ≡ over (recordsFrom (dueSlots clock now (n .slots))) output)
         → Ticked clock n output (record { node = node; reply = Done; written = written }) left
     tick-done node written left s w = (rw (taken, ← e, s, w .0), rw (taken, ← e) (w .1))
-
-    pub tick-still : some (stirsAt clock now) (n .slots) ≡ false
-        → Ticked clock n output (record { node = record { slots = n .slots; counter = now }; reply = Done; written = 0 }) output
-    unfolding recordsFrom
-    tick-still s =
-        let still = still-tick clock now (n .slots) s in
-        (rw (taken, ← e, still .0, still .1), rw (taken, ← e, still .1))

@@ -2,7 +2,7 @@
 use mathlib.Core.Path.{_≡_}
 use mathlib.Core.Bool.{true, false}
 use borrow.Author.Tests.{not-true, not-false, lt-ltb, le-ltb, eq-eqb, ne-eqb}
-use Rattle.node.specs.Selection.{mayStir}
+use Rattle.node.specs.Stirring.{mayStir}
 use Rattle.node.proofs.slots.Slot.may_stir.Statement.{statement}
 use Rattle.node.proofs.slots.Slot.may_stir.Tie as tie
 

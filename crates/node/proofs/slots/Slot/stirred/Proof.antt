@@ -1,6 +1,6 @@
 -- `Slot::stirred` meets its contract: each return rewrites with the tests that led there.
 use borrow.Author.Tests.{eq-eqb, ne-eqb}
-use Rattle.node.specs.Selection.{stirred}
+use Rattle.node.specs.Stirring.{stirred}
 use Rattle.node.proofs.slots.Slot.stirred.Statement.{statement}
 use Rattle.node.proofs.slots.Slot.stirred.Tie as tie
 
