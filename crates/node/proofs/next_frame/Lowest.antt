@@ -13,7 +13,8 @@ use Rattle.wire.specs.Identifiers.{maxStream, maxBusId, maxCode, streamOf, code
 use Rattle.wire.specs.Settings.{isPlain}
 use Rattle.node.specs.declared.slots.Slot.{Slot}
 use Rattle.node.specs.Slots.{empty, isOf, first, some}
-use Rattle.node.specs.NextFrame.{payloadCode, one, pendingCodes, idsFrom, pendingIn, isNone, lowest, hasFrame, lowestFrame}
+use Rattle.node.specs.NextFrame.{payloadCode, one, pendingCodes, isNone, lowest, hasFrame, lowestCode}
+use Rattle.node.specs.OldLayout.{idsFrom, pendingIn}
 use Rattle.node.specs.Request.{hasPending}
 use Rattle.node.proofs.Choices.{contrary}
 use Rattle.node.proofs.slots.Table.{some-first}
@@ -98,44 +99,44 @@ lowest-ids stream (code ∷ []) some = refl
 lowest-ids stream (code ∷ next ∷ codes) some = let h = lowest-ids stream (next ∷ codes) refl in omega arith
 
 module _ (x : Slot) where
-  -- a frame is pending, of a slot that is set up with a number that is a stream's
-  pub has-frame : hasFrame x ≡ (hasPending (x .pending) && (x .used && leb (x .stream .0) maxStream))
+  -- there is one exactly where the slot has a frame
+  pub has-ids : isNone (pendingIn x) ≡ not (hasFrame x)
   unfolding pendingIn
-  has-frame =
+  has-ids =
       go (hasPending (x .pending)) (x .used && leb (x .stream .0) maxStream)
       (some-code (payloadCode x) (x .pending .payload) (x .pending .confirmation) (x .pending .abort))
     where
       go : (any stream : Bool) → isNone (pendingCodes x) ≡ not any
-          → not (isNone (cond stream (idsFrom (x .stream .0) (pendingCodes x)) [])) ≡ (any && stream)
-      go true true e = rw (none-from (x .stream .0) (pendingCodes x), e)
+          → isNone (cond stream (idsFrom (x .stream .0) (pendingCodes x)) []) ≡ not (any && stream)
+      go true true e = none-from (x .stream .0) (pendingCodes x) ∙ e
       go true false e = refl
-      go false true e = rw (none-from (x .stream .0) (pendingCodes x), e)
+      go false true e = none-from (x .stream .0) (pendingCodes x) ∙ e
       go false false e = refl
 
-  -- and the first that it gives out
+  -- and the lowest is that of the first frame that it gives out
   module _ (frame : hasFrame x ≡ true) where
     both : (hasPending (x .pending) ≡ true) × ((x .used && leb (x .stream .0) maxStream) ≡ true)
-    both = and-eq-true-iff (hasPending (x .pending)) _ .0 (sym has-frame ∙ frame)
+    both = and-eq-true-iff (hasPending (x .pending)) _ .0 frame
 
     some-pending : isNone (pendingCodes x) ≡ false
     some-pending =
         some-code (payloadCode x) (x .pending .payload) (x .pending .confirmation) (x .pending .abort) ∙ ap not (both .0)
 
-    frame-lowest : lowest (pendingIn x) ≡ x .stream .0 * 4 + lowest (pendingCodes x)
+    small : lowestCode x ≤ maxCode
+    small = code-at-most-three x _ (lowest-among (pendingCodes x) some-pending)
+
+    frame-lowest : lowest (pendingIn x) ≡ x .stream .0 * 4 + lowestCode x
     unfolding pendingIn
     frame-lowest = rw (both .1) (lowest-ids (x .stream .0) (pendingCodes x) some-pending)
 
-    small : lowest (pendingCodes x) ≤ maxCode
-    small = code-at-most-three x _ (lowest-among (pendingCodes x) some-pending)
-
-    pub frame-code : codeOf (lowestFrame x) ≡ lowest (pendingCodes x)
-    frame-code = omega (arith, frame-lowest, small)
-
-    pub frame-id : lowestFrame x ≡ join (x .stream) (lowest (pendingCodes x)) .id
+    pub frame-id : join (x .stream) (lowestCode x) .id ≡ record { 0 = lowest (pendingIn x) }
     unfolding join
     frame-id =
         let stream = and-eq-true-iff (x .used) _ .0 (both .1) .1 in
-        rw (stream, le-leb (lowest (pendingCodes x)) maxCode small, frame-lowest)
+        rw (stream, le-leb (lowestCode x) maxCode small, frame-lowest)
+
+    pub frame-code : codeOf (record { 0 = lowest (pendingIn x) }) ≡ lowestCode x
+    frame-code = omega (arith, frame-lowest, small)
 
 -- ── of the first slot with a frame ──
 pub none-in-empty : pendingIn empty ≡ []
@@ -143,7 +144,7 @@ unfolding pendingIn
 none-in-empty = refl
 
 pub some-has-frame : (xs : List Slot) → some hasFrame xs ≡ hasFrame (first hasFrame xs)
-some-has-frame = some-first hasFrame (ap (λ (is : List ℕ). not (isNone is)) none-in-empty)
+some-has-frame = some-first hasFrame refl
 
 -- ── where a pending identifier comes from ──
 from-codes : (stream : ℕ) (codes : List ℕ) (i : ℕ) → ((c : ℕ) → List·Memᴰ c codes → c ≤ 3) → List·Memᴰ i (idsFrom stream codes)
