@@ -1,8 +1,8 @@
 -- The next frame: of the pending frames of the first slot that has any, the one with the lowest code; in every node that calls make, it is
 -- that with the lowest bus identifier of all. The replies ShortOutput, Nothing, in this order.
-use Prim.Native.Nat.{ℕ, min}
-use mathlib.Core.Bool.{Bool, true, false, cond, not, _&&_, _||_}
-use mathlib.Core.List.{List, [], _∷_, _++_}
+use Prim.Native.Nat.{ℕ}
+use mathlib.Core.Bool.{Bool, cond, not, _&&_, _||_}
+use mathlib.Core.List.{List, [], _∷_}
 use lib.ListN.{length}
 use lib.Dec.{eqb, leb, ltb}
 use Rattle.wire.specs.declared.reply.Reply.the-variants.{Done, ShortOutput, Nothing}
@@ -18,28 +18,6 @@ use Rattle.node.specs.Request.{hasPending}
 -- the longest payload must fit
 abbrev pub nextRoom : ℕ
 nextRoom = 8
-
--- the code of the frame with the payload
-abbrev pub payloadCode : Slot → ℕ
-payloadCode x = cond (isPlain (x .settings)) 3 0
-
-abbrev pub one : Bool → ℕ → List ℕ
-one true i = i ∷ []
-one false i = []
-
--- the codes of a slot's pending frames
-abbrev pub pendingCodes : Slot → List ℕ
-pendingCodes x = one (x .pending .payload) (payloadCode x) ++ one (x .pending .confirmation) 1 ++ one (x .pending .abort) 2
-
--- there are none
-abbrev pub isNone : List ℕ → Bool
-isNone [] = true
-isNone (i ∷ is) = false
-
--- the lowest of some (of none there is none, and next frame answers Nothing)
-unfoldable pub lowest : List ℕ → ℕ
-lowest [] = 0
-lowest (i ∷ is) = cond (isNone is) i (min i (lowest is))
 
 -- the frame with this code is pending no longer
 abbrev pub without : (code : ℕ) → Pending → Pending
@@ -57,9 +35,11 @@ payloadFor code x = cond (eqb code 1 || eqb code 2) [] (payloadOf (x .message))
 abbrev pub hasFrame : Slot → Bool
 hasFrame x = hasPending (x .pending) && (x .used && leb (x .stream .0) maxStream)
 
--- the code of the one that it gives out first
+-- the lowest code of those that are pending: data, confirmation, abort, plain
 abbrev pub lowestCode : Slot → ℕ
-lowestCode x = lowest (pendingCodes x)
+lowestCode x =
+    cond (x .pending .payload && not (isPlain (x .settings))) 0
+    (cond (x .pending .confirmation) 1 (cond (x .pending .abort) 2 3))
 
 abbrev pub lowestGiven : Slot → Slot
 lowestGiven x = givenOut (lowestCode x) x

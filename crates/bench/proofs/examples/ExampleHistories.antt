@@ -22,6 +22,6 @@ unfolding
     hearing.heardBy hearing.deliveredAtOnce hearing.hear
     ticking.late ticking.due ticking.holdOver ticking.lapsed ticking.dueSlots ticking.recordsFrom ticking.tick
     requesting.requested requesting.request
-    join giving.lowest giving.givenOut giving.payloadFor giving.give giving.nextFrame
+    join giving.givenOut giving.payloadFor giving.give giving.nextFrame
     proper start step may
 computing = true

@@ -20,8 +20,8 @@ use Rattle.wire.specs.Settings.{receives, sends, isPlain}
 use Rattle.node.specs.Calls.{hear, tick, request, nextFrame, outcome}
 use Rattle.node.specs.Clock.{unbounded}
 use Rattle.node.specs.Hear.{clashes, heardBy, deliveredAtOnce}
-use Rattle.node.specs.NextFrame.{one, pendingCodes, payloadCode, hasFrame, lowestCode, lowestGiven, give, givenOut, payloadFor}
-use Rattle.node.specs.OldLayout.{idsFrom, pendingIn, pendingIds, giveById}
+use Rattle.node.specs.NextFrame.{hasFrame, lowestCode, lowestGiven, give, givenOut, payloadFor}
+use Rattle.node.specs.OldLayout.{one, pendingCodes, payloadCode, idsFrom, pendingIn, pendingIds, giveById}
 use Rattle.node.specs.SlotOrder.{Distinct}
 use Rattle.node.specs.Nodes.{slotOf, onSlot, Outcome}
 use Rattle.node.specs.Reachable.{KeptSlot, All, InOrder, Kept}

@@ -10,11 +10,11 @@ use Rattle.node.specs.SetUp.{lessFree, inPlace, setUp}
 use Rattle.node.specs.Hear.{heardBy, hear}
 use Rattle.node.specs.Tick.{tick}
 use Rattle.node.specs.Request.{requested, request}
-use Rattle.node.specs.NextFrame.{lowest, give, nextFrame}
+use Rattle.node.specs.NextFrame.{give, nextFrame}
 use Rattle.node.specs.Refused.{RepliesGiven}
 
 pub replies-given : (clock : Clock) → RepliesGiven clock
-unfolding setUp lessFree inPlace hear heardBy tick request requested nextFrame join lowest give legal badFrame carries sameBytes first onFirst some
+unfolding setUp lessFree inPlace hear heardBy tick request requested nextFrame join give legal badFrame carries sameBytes first onFirst some
 replies-given clock =
     record {
       setUp = λ s settings n. record { given = refl; every = refl };

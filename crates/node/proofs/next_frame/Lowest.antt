@@ -13,8 +13,8 @@ use Rattle.wire.specs.Identifiers.{maxStream, maxBusId, maxCode, streamOf, code
 use Rattle.wire.specs.Settings.{isPlain}
 use Rattle.node.specs.declared.slots.Slot.{Slot}
 use Rattle.node.specs.Slots.{empty, isOf, first, some}
-use Rattle.node.specs.NextFrame.{payloadCode, one, pendingCodes, isNone, lowest, hasFrame, lowestCode}
-use Rattle.node.specs.OldLayout.{idsFrom, pendingIn}
+use Rattle.node.specs.NextFrame.{hasFrame, lowestCode}
+use Rattle.node.specs.OldLayout.{payloadCode, one, pendingCodes, isNone, lowest, idsFrom, pendingIn}
 use Rattle.node.specs.Request.{hasPending}
 use Rattle.node.proofs.Choices.{contrary}
 use Rattle.node.proofs.slots.Table.{some-first}
@@ -63,29 +63,26 @@ some-code code false true abort = refl
 some-code code false false true = refl
 some-code code false false false = refl
 
--- the frames tried by ascending code
-abbrev firstCode : (plain payload confirmation abort : Bool) → ℕ
-firstCode plain payload confirmation abort = cond (payload && not plain) 0 (cond confirmation 1 (cond abort 2 (cond payload 3 0)))
-
-by-flags : (plain payload confirmation abort : Bool)
-    → lowest (one payload (cond plain 3 0) ++ one confirmation 1 ++ one abort 2) ≡ firstCode plain payload confirmation abort
+-- the lowest of them is the code that the slot gives out first
+by-flags : (plain payload confirmation abort : Bool) → (payload || confirmation || abort) ≡ true
+    → lowest (one payload (cond plain 3 0) ++ one confirmation 1 ++ one abort 2)
+    ≡ cond (payload && not plain) 0 (cond confirmation 1 (cond abort 2 3))
 unfolding lowest
-by-flags plain false false false = refl
-by-flags plain false false true = refl
-by-flags plain false true false = refl
-by-flags plain false true true = refl
-by-flags false true false false = refl
-by-flags false true false true = refl
-by-flags false true true false = refl
-by-flags false true true true = refl
-by-flags true true false false = refl
-by-flags true true false true = refl
-by-flags true true true false = refl
-by-flags true true true true = refl
+by-flags plain false false false any = contrary any refl
+by-flags plain false false true any = refl
+by-flags plain false true false any = refl
+by-flags plain false true true any = refl
+by-flags false true false false any = refl
+by-flags false true false true any = refl
+by-flags false true true false any = refl
+by-flags false true true true any = refl
+by-flags true true false false any = refl
+by-flags true true false true any = refl
+by-flags true true true false any = refl
+by-flags true true true true any = refl
 
-pub lowest-code : (x : Slot)
-    → lowest (pendingCodes x) ≡ firstCode (isPlain (x .settings)) (x .pending .payload) (x .pending .confirmation) (x .pending .abort)
-lowest-code x = by-flags (isPlain (x .settings)) (x .pending .payload) (x .pending .confirmation) (x .pending .abort)
+lowest-code : (x : Slot) → hasPending (x .pending) ≡ true → lowest (pendingCodes x) ≡ lowestCode x
+lowest-code x any = by-flags (isPlain (x .settings)) (x .pending .payload) (x .pending .confirmation) (x .pending .abort) any
 
 -- ── of a slot's identifiers ──
 none-from : (stream : ℕ) (codes : List ℕ) → isNone (idsFrom stream codes) ≡ isNone codes
@@ -123,11 +120,11 @@ module _ (x : Slot) where
         some-code (payloadCode x) (x .pending .payload) (x .pending .confirmation) (x .pending .abort) ∙ ap not (both .0)
 
     small : lowestCode x ≤ maxCode
-    small = code-at-most-three x _ (lowest-among (pendingCodes x) some-pending)
+    small = rw (← (lowest-code x (both .0))) (code-at-most-three x _ (lowest-among (pendingCodes x) some-pending))
 
     frame-lowest : lowest (pendingIn x) ≡ x .stream .0 * 4 + lowestCode x
     unfolding pendingIn
-    frame-lowest = rw (both .1) (lowest-ids (x .stream .0) (pendingCodes x) some-pending)
+    frame-lowest = rw (both .1, ← (lowest-code x (both .0))) (lowest-ids (x .stream .0) (pendingCodes x) some-pending)
 
     pub frame-id : join (x .stream) (lowestCode x) .id ≡ record { 0 = lowest (pendingIn x) }
     unfolding join

@@ -16,7 +16,7 @@ use Rattle.node.specs.declared.Node.{Node}
 use Rattle.node.specs.declared.Given.{Given}
 use Rattle.node.specs.Slots.{first, some}
 use Rattle.node.specs.Nodes.{withSlots, Outcome, refused, asGiven}
-use Rattle.node.specs.NextFrame.{nextRoom, pendingCodes, lowest, hasFrame, lowestGiven, givenOut, payloadFor, give, nextRefusals, nextFrame}
+use Rattle.node.specs.NextFrame.{nextRoom, lowestCode, hasFrame, lowestGiven, givenOut, payloadFor, give, nextRefusals, nextFrame}
 use Rattle.node.specs.Calls.{Call}
 use Rattle.node.proofs.Cases.{Refuses, here, later}
 use Rattle.node.proofs.next_frame.Cases.{next-cases}
@@ -43,7 +43,7 @@ module _ (output : List ℕ) (n : Node) where
         refused-for (later (le-ltb _ _ room) (here (ap not none)))
 
     -- the slot that the code finds, with what it makes of it
-    module _ (inside : i < length (n .slots)) (d : Slot) (code : ℕ) (lowest-code : code ≡ lowest (pendingCodes (getD (n .slots) i d))) where
+    module _ (inside : i < length (n .slots)) (d : Slot) (code : ℕ) (lowest-code : code ≡ lowestCode (getD (n .slots) i d)) where
       abbrev here-found : Slot
       here-found = getD (n .slots) i d
 

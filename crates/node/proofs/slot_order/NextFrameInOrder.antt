@@ -14,8 +14,8 @@ use Rattle.wire.specs.Identifiers.{maxBusId, streamOf, codeOf, join}
 use Rattle.node.specs.declared.slots.Slot.{Slot}
 use Rattle.node.specs.declared.Node.{Node}
 use Rattle.node.specs.Slots.{isOf, first, onFirst, some}
-use Rattle.node.specs.NextFrame.{isNone, lowest, nextRoom, givenOut, hasFrame, lowestCode, lowestGiven, give, nextRefusals, nextFrame}
-use Rattle.node.specs.OldLayout.{pendingIn, pendingIds, giveById, nextByIdRefusals, nextById}
+use Rattle.node.specs.NextFrame.{nextRoom, givenOut, hasFrame, lowestCode, lowestGiven, give, nextRefusals, nextFrame}
+use Rattle.node.specs.OldLayout.{isNone, lowest, pendingIn, pendingIds, giveById, nextByIdRefusals, nextById}
 use Rattle.node.specs.Nodes.{Outcome, unlessRefused}
 use Rattle.node.specs.Reachable.{All, After, InOrder}
 use Rattle.node.proofs.Choices.{contrary}
