@@ -105,10 +105,10 @@ static struct asked frame(uint32_t random)
     };
 }
 
-/* Data with eight bytes. */
-static struct asked data(uint32_t stream)
+/* Data with eight bytes; half with another first byte. */
+static struct asked data(uint32_t stream, uint32_t random)
 {
-    return (struct asked){.number = stream * 4, .dlc = 8, .len = 8, .room = 512};
+    return (struct asked){.number = stream * 4, .dlc = 8, .len = 8, .first = random / 65536 % 2, .room = 512};
 }
 
 static struct asked message(uint32_t random)
@@ -261,7 +261,7 @@ static const struct work {
     uint64_t period;
 } works[WORKS] = {
     [HEAR] = {"hear", CALL_HEAR, 256},
-    [HEAR_LAST] = {"hear-last", CALL_HEAR, 1},
+    [HEAR_LAST] = {"hear-last", CALL_HEAR, 2},
     [HEAR_ABSENT] = {"hear-absent", CALL_HEAR, 256},
     [TICK_IDLE] = {"tick-idle", CALL_TICK, 64},
     [TICK_ONE] = {"tick-one", CALL_TICK, 32},
@@ -322,9 +322,9 @@ static struct asked frame_of(size_t work, uint32_t random)
 {
     switch (work) {
     case HEAR_LAST:
-        return data(stream_of(HIGHEST));
+        return data(stream_of(HIGHEST), random);
     case HEAR_ABSENT:
-        return data(stream_of(random / 65536 % 32) + 1);
+        return data(stream_of(random / 65536 % 32) + 1, random);
     default:
         return frame(random);
     }

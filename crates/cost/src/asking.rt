@@ -108,28 +108,28 @@ pub(crate) fn frame(random: u32) -> Asked {
     }
 }
 
-// Data with eight bytes.
-fn data(stream: u32) -> Asked
+// Data with eight bytes; half with another first byte.
+fn data(stream: u32, random: u32) -> Asked
     requires { ⌜ stream ≤ 258243 ⌝ }
 {
     Asked {
         number: stream * 4,
         dlc: 8,
         len: 8,
-        first: 0,
+        first: (random / 65536 % 2) as u8,
         room: ROOM,
         settings: settings_of(0, 0),
     }
 }
 
 // Data of the stream with the highest number.
-pub(crate) fn data_of_highest() -> Asked {
-    data(stream_of(HIGHEST))
+pub(crate) fn data_of_highest(random: u32) -> Asked {
+    data(stream_of(HIGHEST), random)
 }
 
 // Data of an unknown stream.
 pub(crate) fn data_of_absent(random: u32) -> Asked {
-    data(stream_of(random / 65536 % 32) + 1)
+    data(stream_of(random / 65536 % 32) + 1, random)
 }
 
 // A request: one in eight each of an unknown stream and with nine bytes.

@@ -121,7 +121,7 @@ fn period_of(work: Work) -> u64
 {
     match work {
         Work::Hear => 256,
-        Work::HearLast => 1,
+        Work::HearLast => 2,
         Work::HearAbsent => 256,
         Work::TickIdle => 64,
         Work::TickOne => 32,
@@ -194,7 +194,7 @@ fn start_of(work: Work) -> Node {
 
 fn frame_of(work: Work, random: u32) -> Asked {
     if let Work::HearLast = work {
-        return asking::data_of_highest();
+        return asking::data_of_highest(random);
     }
     if let Work::HearAbsent = work {
         return asking::data_of_absent(random);

@@ -116,9 +116,9 @@ fn frame(random: u32) -> Asked {
     }
 }
 
-/// Data with eight bytes.
-fn data(stream: u32) -> Asked {
-    Asked { number: stream * 4, dlc: 8, len: 8, ..NOTHING }
+/// Data with eight bytes; half with another first byte.
+fn data(stream: u32, random: u32) -> Asked {
+    Asked { number: stream * 4, dlc: 8, len: 8, first: (random / 65_536 % 2) as u8, ..NOTHING }
 }
 
 fn message(random: u32) -> Asked {
@@ -188,7 +188,7 @@ fn requested(k: u32) -> Node {
 fn named(name: &str) -> Option<(Call, Node, u64)> {
     Some(match name {
         "hear" => (Call::Hear, with(Streams::Mixed), 256),
-        "hear-last" => (Call::HearLast, with(Streams::HighestLast), 1),
+        "hear-last" => (Call::HearLast, with(Streams::HighestLast), 2),
         "hear-absent" => (Call::HearAbsent, with(Streams::Mixed), 256),
         "tick-idle" => (Call::Tick, held(Streams::Received, Done::Confirmed, 2, false, 0), 64),
         "tick-one" => (Call::Tick, held(Streams::Received, Done::Confirmed, 4, true, 68), 32),
@@ -229,8 +229,8 @@ fn run(work: Call, start: &Node, period: u64, rounds: u64, calls: u64) -> u32 {
         };
         let asked = match call {
             Call::Hear => frame(random),
-            Call::HearLast => data(stream(HIGHEST)),
-            Call::HearAbsent => data(stream(random / 65_536 % 32) + 1),
+            Call::HearLast => data(stream(HIGHEST), random),
+            Call::HearAbsent => data(stream(random / 65_536 % 32) + 1, random),
             Call::Request => message(random),
             Call::SetUp => asked_stream(i, random),
             Call::Tick | Call::NextFrame | Call::Any => NOTHING,
