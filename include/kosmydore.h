@@ -18,7 +18,7 @@
 #define KOSMYDORE_H
 
 /* The version, as the file VERSION and `./kosmydore --version` have it. */
-#define KOSMYDORE_VERSION "4.3.0"
+#define KOSMYDORE_VERSION "4.3.1"
 #define KOSMYDORE_VERSION_MAJOR 4
 #define KOSMYDORE_VERSION_MINOR 3
 #define KOSMYDORE_VERSION_PATCH 0

@@ -1,4 +1,6 @@
 // The frames that were given out, the first of them at 0.
+use wire::frame::MAX_PAYLOAD;
+use wire::frame::at_most_payload;
 use wire::ids::BusId;
 ghost use mathlib.Core.Path.{_≡_};
 ghost use Prim.Native.Nat.{_≤_};
@@ -14,8 +16,7 @@ pub struct Frame {
 }
 
 impl Frame {
-    // A payload has at most so many bytes.
-    pub const ROOM: usize = 8;
+    pub const ROOM: usize = MAX_PAYLOAD;
 
     pub const NONE: Frame = Frame {
         owner: 0,
@@ -28,11 +29,7 @@ impl Frame {
     pub fn payload_length(self) -> usize
         ensures { λ r. ⌜ (r ≡ length (payloadOf self)) × (r ≤ maxPayload) ⌝ }
     {
-        if self.len <= Frame::ROOM {
-            self.len
-        } else {
-            Frame::ROOM
-        }
+        at_most_payload(self.len)
     }
 
     // The payload and the zeros after it, eight bytes in all.

@@ -8,35 +8,21 @@ use text::numbers;
 use text::output;
 use text::part;
 use text::payloads;
+use text::settings::settings_at;
 use text::words;
 use wire::ids::BusId;
 use wire::ids::Stream;
 use wire::reply::Reply;
-use wire::settings::Settings;
 
 // The most bytes of a payload that can be read.
 const PAYLOAD: usize = 64;
 
 // setup STREAM ROLE CLASS RD DC RA DD
 pub(crate) fn setup(state: State, line: &[u8], at: usize, out: &mut Buffer, to: usize) -> Answer {
-    let stream = numbers::u32_at(line, at, u32::MAX);
-    let role = numbers::u8_at(line, stream.next, u8::MAX);
-    let class = numbers::u8_at(line, role.next, u8::MAX);
-    let rd = numbers::u16_at(line, class.next, u16::MAX);
-    let dc = numbers::u16_at(line, rd.next, u16::MAX);
-    let ra = numbers::u16_at(line, dc.next, u16::MAX);
-    let dd = numbers::u16_at(line, ra.next, u16::MAX);
-    if stream.ok & role.ok & class.ok & rd.ok & dc.ok & ra.ok & dd.ok & words::done(line, dd.next) {
-        let settings = Settings::of(
-            role.value,
-            class.value,
-            rd.value,
-            dc.value,
-            ra.value,
-            dd.value,
-        );
+    let read = settings_at(line, at);
+    if read.ok & words::done(line, read.next) {
         let node = state.node;
-        let answer = node.set_up(Stream(stream.value), settings);
+        let answer = node.set_up(read.stream, read.settings);
         let reply = answer.reply;
         return Answer {
             state: answers::after(answer.node, state.tally, reply),

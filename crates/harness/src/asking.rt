@@ -9,10 +9,10 @@ use text::Buffer;
 use text::numbers;
 use text::part;
 use text::payloads;
+use text::settings::settings_at;
 use text::words;
 use wire::ids::Stream;
 use wire::reply::Reply;
-use wire::settings::Settings;
 
 // The most bytes of a payload that can be read.
 const PAYLOAD: usize = 64;
@@ -34,25 +34,10 @@ pub(crate) fn line(verb: Verb, state: State, line: &[u8], out: &mut Buffer, to: 
 // setup M STREAM ROLE CLASS RD DC RA DD
 fn setup(state: State, line: &[u8], at: usize, out: &mut Buffer, to: usize) -> Answer {
     let who = names::module_at(line, at, state.modules);
-    let stream = numbers::u32_at(line, who.next, u32::MAX);
-    let role = numbers::u8_at(line, stream.next, u8::MAX);
-    let class = numbers::u8_at(line, role.next, u8::MAX);
-    let rd = numbers::u16_at(line, class.next, u16::MAX);
-    let dc = numbers::u16_at(line, rd.next, u16::MAX);
-    let ra = numbers::u16_at(line, dc.next, u16::MAX);
-    let dd = numbers::u16_at(line, ra.next, u16::MAX);
-    let numbers_ok = rd.ok & dc.ok & ra.ok & dd.ok & words::done(line, dd.next);
-    if who.ok & stream.ok & role.ok & class.ok & numbers_ok {
-        let settings = Settings::of(
-            role.value,
-            class.value,
-            rd.value,
-            dc.value,
-            ra.value,
-            dd.value,
-        );
+    let read = settings_at(line, who.next);
+    if who.ok & read.ok & words::done(line, read.next) {
         let bench = state.bench;
-        let asked = bench.set_up(who.value, Stream(stream.value), settings);
+        let asked = bench.set_up(who.value, read.stream, read.settings);
         let reply = asked.reply;
         return Answer {
             state: state.with(asked.bench),

@@ -123,7 +123,7 @@ every-recording-is-read bytes = reads-from (length bytes) bytes 0 (omega arith)
 -- ── these are the promises of the sources ──
 -- two statements about lifetimes, the input, the answer, and what is behind each parameter at the exit, are one
 module _ {L : Type 0} {I A E : L → Type 0} where
-  abbrev Says : (said is : (l : L) → I l → A l → E l → Type 0) → Type 1
+  abbrev pub Says : (said is : (l : L) → I l → A l → E l → Type 0) → Type 1
   Says said is = (l : L) (i : I l) (a : A l) (e : E l) → said l i a e ≡ is l i a e
 
 pub write-heard-says :

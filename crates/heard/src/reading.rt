@@ -2,6 +2,7 @@
 use crate::kind::count_bytes;
 use crate::record::Heard;
 use crate::reply::Reply;
+use wire::frame::MAX_PAYLOAD;
 use wire::ids::BusId;
 ghost use mathlib.Core.Path.{_≡_};
 ghost use Prim.Native.Nat.{_+_, _^_, _≤_, _<_};
@@ -45,7 +46,7 @@ pub fn heard_at(bytes: &[u8], at: usize) -> HeardAt
     if follow < head {
         return refused(Reply::BadRecordLength, at);
     }
-    if follow > head + Heard::MOST_PAYLOAD {
+    if follow > head + MAX_PAYLOAD {
         return refused(Reply::BadRecordLength, at);
     }
     let id = 4 + width + at;

@@ -12,6 +12,4 @@ pub struct Heard {
 impl Heard {
     // Kind, bus identifier and DLC, which the length counts beside the count and the payload.
     pub const FIXED_LENGTH: usize = 7;
-
-    pub const MOST_PAYLOAD: usize = 8;
 }

@@ -3,6 +3,7 @@ use crate::kind;
 use crate::kind::count_bytes;
 use crate::record::Heard;
 use crate::reply::Reply;
+use wire::frame::MAX_PAYLOAD;
 use wire::ids::BusId;
 ghost use mathlib.Core.Path.{_≡_};
 ghost use Prim.Native.Nat.{_+_, _≤_};
@@ -41,7 +42,7 @@ fn write(out: &mut [u8], heard: Heard, payload: &[u8]) -> Written
         × (now (out .exit) ≡ over (writing heard (now (payload .entry)) (now (out .entry)) .bytes) (now (out .entry))) ⌝ }
 {
     let n = payload.len();
-    if n > Heard::MOST_PAYLOAD {
+    if n > MAX_PAYLOAD {
         return Written {
             reply: Reply::BadRecordLength,
             written: 0,

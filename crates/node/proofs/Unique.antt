@@ -15,8 +15,8 @@ use Rattle.node.proofs.slots.Slot.is_receiver.Reads as is-receiver
 use Rattle.node.proofs.slots.Slot.is_sender.Reads as is-sender
 use Rattle.node.proofs.slots.Slot.is_busy.Reads as is-busy
 use Rattle.node.proofs.slots.Slot.set_up.Reads as slot-set-up
+use Rattle.node.proofs.slots.Slot.has_frame.Reads as has-frame
 use Rattle.node.proofs.slots.Slot.lowest_code.Reads as lowest-code
-use Rattle.node.proofs.slots.Slot.lowest_pending.Reads as lowest-pending
 use Rattle.node.proofs.slots.Slot.given_out.Reads as given-out
 use Rattle.node.proofs.slots.Message.payload_length.Reads as payload-length
 use Rattle.node.proofs.slots.Message.same.Reads as same-payload
@@ -73,11 +73,11 @@ is-busy-unique l input a b s t = same
 pub slot-set-up-unique : OneAnswer slot-set-up.Post
 slot-set-up-unique l input a b s t = same
 
+pub has-frame-unique : OneAnswer has-frame.Post
+has-frame-unique l input a b s t = same
+
 pub lowest-code-unique : OneAnswer lowest-code.Post
 lowest-code-unique l input a b s t = same
-
-pub lowest-pending-unique : OneAnswer lowest-pending.Post
-lowest-pending-unique l input a b s t = same
 
 pub given-out-unique : OneAnswer given-out.Post
 given-out-unique l input a b s t = same

@@ -135,13 +135,14 @@ impl Node {
         let stream = s.stream;
         let code = s.lowest_code();
         let joined = stream.join(code);
+        let id = joined.id;
         let len = give_payload(out, s, code);
         let t = s.given_out(code);
         self.slots[i] = t;
         Given {
             node: self,
             reply: Reply::Done,
-            id: joined.id,
+            id: id,
             len: len,
         }
     }

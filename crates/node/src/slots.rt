@@ -1,9 +1,11 @@
 // A slot: a stream with its settings, the message it holds, and its pending frames. Each is made here, wherever it is made: a
 // new field is added here and in `specs/Slots.antt`.
+use wire::frame::MAX_PAYLOAD;
+use wire::frame::at_most_payload;
 use wire::ids::Stream;
 use wire::settings::Settings;
 ghost use mathlib.Core.Path.{_≡_};
-ghost use Prim.Native.Nat.{_≤_, min};
+ghost use Prim.Native.Nat.{_≤_};
 ghost use lib.ListN.{length, take};
 ghost use Rattle.wire.specs.Frames.{maxPayload};
 ghost use Rattle.node.specs.Slots.{padded, holding, keeping, payloadOf, same, toSend};
@@ -22,7 +24,7 @@ pub struct Message {
 
 impl Message {
     // The longest payload of a frame.
-    pub const MAX_LEN: usize = 8;
+    pub const MAX_LEN: usize = MAX_PAYLOAD;
 
     pub const NONE: Message = Message {
         stamp: 0,
@@ -64,7 +66,7 @@ impl Message {
     pub fn payload_length(self) -> usize
         ensures { λ r. ⌜ r ≡ length (payloadOf self) ⌝ }
     {
-        at_most_eight(self.len as usize)
+        at_most_payload(self.len as usize)
     }
 
     // Whether a payload has the message's length and bytes.
@@ -94,7 +96,7 @@ impl Message {
 pub fn pad(payload: &[u8]) -> [u8; Message::MAX_LEN]
     ensures { λ r. ⌜ r ≡ take maxPayload (padded (now (payload .entry))) ⌝ }
 {
-    let n = at_most_eight(payload.len());
+    let n = at_most_payload(payload.len());
     let mut bytes = [0u8; Message::MAX_LEN];
     let mut i: usize = 0;
     while i < n {
@@ -102,16 +104,6 @@ pub fn pad(payload: &[u8]) -> [u8; Message::MAX_LEN]
         i += 1;
     }
     bytes
-}
-
-fn at_most_eight(n: usize) -> usize
-    ensures { λ r. ⌜ r ≡ min n maxPayload ⌝ }
-{
-    if n <= Message::MAX_LEN {
-        n
-    } else {
-        Message::MAX_LEN
-    }
 }
 
 #[repr(C)]

@@ -170,6 +170,7 @@ impl Node {
         }
         let now = next(self.counter);
         self.counter = now;
+        // One pass: the slots that are passed have lapsed, and the records of those that were due stand before `at`.
         let mut at: usize = 0;
         let mut passed: usize = 0;
         while passed < Node::SLOTS {
@@ -178,7 +179,7 @@ impl Node {
             let slot = self.slots[i];
             let a = age(now, slot.message.stamp);
             if slot.may_stir(a) {
-                // Read again, so that of the other slots only a few fields are read.
+                // Read again, so that of the slots that do not stir only a few fields are read.
                 let old = self.slots[i];
                 if old.due(a) {
                     self.slots[i] = old.stirred();

@@ -1,16 +1,12 @@
 -- The promises that the runs speak of are those of the sources.
 use mathlib.Core.Path.{_≡_, refl}
 use denote.Ref.{now}
+use Rattle.heard.proofs.WrittenThenRead.{Says}
 use Rattle.playback.specs.Steps.{freshPlayback, prepared}
 use Rattle.playback.specs.Runs.{StepPromises}
 use Rattle.playback.proofs.Playback.fresh.Reads as fresh
 use Rattle.playback.proofs.Playback.set_up.Reads as set-up
 use Rattle.playback.proofs.Playback.step.Reads as step
-
--- two statements about lifetimes, the input, the answer, and what is behind each parameter at the exit, are one
-module _ {L : Type 0} {I A E : L → Type 0} where
-  abbrev Says : (said is : (l : L) → I l → A l → E l → Type 0) → Type 1
-  Says said is = (l : L) (i : I l) (a : A l) (e : E l) → said l i a e ≡ is l i a e
 
 pub fresh-says : Says fresh.Post (λ l i a e. a ≡ freshPlayback)
 fresh-says l i a e = refl

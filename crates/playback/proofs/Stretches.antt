@@ -12,15 +12,15 @@ use Rattle.node.specs.declared.Node.{Node}
 use Rattle.node.specs.Slots.{some}
 use Rattle.node.specs.Nodes.{Outcome, done}
 use Rattle.node.specs.Tick.{holdLength, ageOf, recordsFrom, tick}
-use Rattle.node.specs.Selection.{mayStir, stirs}
+use Rattle.node.specs.Stirring.{mayStir, stirs}
 use Rattle.node.specs.Clock.{Clock, period, unbounded, rolled}
 use Rattle.node.specs.Calls.{Call, outcome, afterFrom, Answer, answerOf, answersFrom}
 use Rattle.node.specs.Reachable.{longest, All}
 use Rattle.node.proofs.Choices.{contrary}
 use Rattle.node.proofs.slots.Table.{all-weaken}
 use Rattle.node.proofs.tick.Cases.{tick-cases}
-use Rattle.node.proofs.tick.Loops.{stirsAt, still-tick}
 use Rattle.node.proofs.tick.Stirring.{stirs-sender, stirs-waiting, stirs-ready, young-is-not-late, young-is-not-due, young-is-held-on, young-is-still}
+use Rattle.node.proofs.tick.Stirring.{stirsAt, still-tick}
 use Rattle.playback.specs.Deliveries.{room}
 use Rattle.playback.specs.Quiet.{withSlot, quietIn, quiet, standing, ticks, silent, NothingButCounts, JumpIsTicking, RolledJumpIsTicking}
 use Rattle.playback.specs.Quiet.{QuietWithoutEnd}

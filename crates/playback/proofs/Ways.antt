@@ -1,10 +1,12 @@
 -- The ways to each answer of the functions.
 use mathlib.Core.Path.{_≡_, refl, sym, ap, _∙_}
 use mathlib.Core.Bool.{Bool, true, false, not, _&&_}
-use mathlib.Core.List.{List}
+use mathlib.Core.List.{List, _∷_}
 use Prim.Native.Nat.{ℕ, suc, _+_, _-_, _%_, _≤_, _<_, min}
+use native.Mathlib.Omega.{arith}
 use lib.Dec.{eqb}
 use lib.ListN.{length, take, drop, getD, drop-of-length-le}
+use lib.Seq.{drop-cons}
 use borrow.Author.Tests.{eq-eqb, ne-eqb, lt-ltb, le-ltb}
 use Rattle.wire.specs.declared.settings.Settings.{Settings}
 use Rattle.wire.specs.Settings.{isTwoMessage}
@@ -28,7 +30,6 @@ use Rattle.node.specs.Tick.{ageOf}
 use Rattle.node.specs.Clock.{Clock, period, rolled}
 use Rattle.node.proofs.Choices.{either-way}
 use Rattle.node.proofs.slots.Finding.{noSlot}
-use Rattle.node.proofs.slots.Downward.{step-down}
 use Rattle.playback.specs.declared.Playback.{Playback}
 use Rattle.playback.specs.declared.step.Way.the-variants.{On, MoreBytes, MoreRoom, Over}
 use Rattle.playback.specs.declared.step.Stepped.{Stepped}
@@ -68,7 +69,9 @@ module _ (clock : Clock) (now most : ℕ) (slots : List Slot) where
   pub quiet-one-more : (i j least k : ℕ) → suc j ≡ i → i ≤ length slots → least ≡ quietIn clock now most (drop i slots)
       → k ≡ withSlot clock now (getD slots j noSlot) least → k ≡ quietIn clock now most (drop j slots)
   unfolding quietIn
-  quiet-one-more i j least k e h passed here = here ∙ rw (step-down slots i j noSlot e h, passed)
+  quiet-one-more i j least k e h passed here =
+      let one-more = drop-cons slots j noSlot (omega arith) ∙ ap (λ (n : ℕ). getD slots j noSlot ∷ drop n slots) e in
+      here ∙ rw (one-more, passed)
 
 -- ── the calls of the node ──
 module _ (p : Playback) where

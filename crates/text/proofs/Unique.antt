@@ -26,6 +26,7 @@ use Rattle.text.proofs.numbers.u32_at.Reads as u32-at
 use Rattle.text.proofs.numbers.usize_at.Reads as usize-at
 use Rattle.text.proofs.payloads.hex.Reads as hex
 use Rattle.text.proofs.payloads.payload_at.Reads as payload-at
+use Rattle.text.proofs.settings.settings_at.Reads as settings-at
 use Rattle.text.proofs.output.flush.Reads as flush
 use Rattle.text.proofs.output.put.Reads as put
 use Rattle.text.proofs.output.put_byte.Reads as put-byte
@@ -112,6 +113,9 @@ payload-at-unique l input a b s t p q = same (p .0) (q .0)
 
 payload-at-content-unique : OneContent (λ l e. now (e .1 .1 .0)) payload-at.Post
 payload-at-content-unique l input a b s t p q = same (p .1 .0) (q .1 .0)
+
+settings-at-unique : OneAnswer (λ l a. a) settings-at.Post
+settings-at-unique l input a b s t = same
 
 flush-unique : OneAnswer (λ l a. a) flush.Post
 flush-unique l input a b s t = same

@@ -5,5 +5,6 @@ pub mod Window
 pub mod Words
 pub mod Numbers
 pub mod Payloads
+pub mod Settings
 pub mod Output
 pub mod Unique

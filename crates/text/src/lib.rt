@@ -8,6 +8,7 @@ pub mod input;
 pub mod numbers;
 pub mod output;
 pub mod payloads;
+pub mod settings;
 pub mod window;
 pub mod words;
 

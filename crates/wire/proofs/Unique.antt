@@ -6,6 +6,7 @@ use Rattle.wire.proofs.class.carries.Reads as carries
 use Rattle.wire.proofs.delivered.record_at.Reads as record-at
 use Rattle.wire.proofs.delivered.record_length.Reads as record-length
 use Rattle.wire.proofs.delivered.write_record.Reads as write-record
+use Rattle.wire.proofs.frame.at_most_payload.Reads as at-most-payload
 use Rattle.wire.proofs.frame.bad_frame.Reads as bad-frame
 use Rattle.wire.proofs.ids.BusId.split.Reads as split
 use Rattle.wire.proofs.ids.Stream.join.Reads as join
@@ -35,6 +36,9 @@ write-record-content-unique l input a b s t p q = same (p .1) (q .1)
 
 pub record-at-unique : OneAnswer record-at.Post
 record-at-unique l input a b s t = same
+
+pub at-most-payload-unique : OneAnswer at-most-payload.Post
+at-most-payload-unique l input a b s t = same
 
 pub bad-frame-unique : OneAnswer bad-frame.Post
 bad-frame-unique l input a b s t = same

@@ -1,9 +1,12 @@
 // The delivered record: its length, the writer, and the reader.
+use crate::frame::MAX_PAYLOAD;
+use crate::frame::at_most_payload;
 use crate::ids::Stream;
 use crate::reply::Reply;
 ghost use mathlib.Core.Path.{_≡_};
-ghost use Prim.Native.Nat.{_+_, _≤_, min};
+ghost use Prim.Native.Nat.{_+_, _≤_};
 ghost use lib.ListN.{length, take};
+ghost use Rattle.wire.specs.Frames.{maxPayload};
 ghost use Rattle.wire.specs.Delivered.{recordLength, fitting, recordOf, over, numberAt, noRecord, recordAt};
 
 pub struct RecordLength {
@@ -15,10 +18,10 @@ pub struct RecordLength {
 pub fn record_length(payload: u32) -> RecordLength
     ensures { λ r. ⌜ r ≡ recordLength payload ⌝ }
 {
-    if payload <= 8 {
+    if payload <= MAX_PAYLOAD as u32 {
         return RecordLength {
             reply: Reply::Done,
-            length: 8 + payload,
+            length: RecordAt::HEAD as u32 + payload,
         };
     }
     RecordLength {
@@ -29,34 +32,28 @@ pub fn record_length(payload: u32) -> RecordLength
 
 // Writes the record of the first `len` of the bytes to the front of `out`, and nothing where it
 // does not fit. Answers how many bytes were written.
-pub fn write_record(out: &mut [u8], stream: Stream, bytes: [u8; 8], len: u8) -> usize
+pub fn write_record(out: &mut [u8], stream: Stream, bytes: [u8; MAX_PAYLOAD], len: u8) -> usize
     ensures answer { λ r. ⌜ r ≡ length (fitting (recordOf stream (take len bytes)) (now (out .entry))) ⌝ }
     ensures output { λ r. ⌜ now (out .exit) ≡ over (fitting (recordOf stream (take len bytes)) (now (out .entry))) (now (out .entry)) ⌝ }
 {
-    let n = at_most_eight(len);
-    if out.len() < 8 + n {
+    let n = at_most_payload(len as usize);
+    if out.len() < RecordAt::HEAD + n {
         return 0;
     }
     put_record(out, stream, bytes, n)
 }
 
-fn at_most_eight(len: u8) -> usize
-    ensures { λ r. ⌜ r ≡ min len 8 ⌝ }
-{
-    if len <= 8 { len as usize } else { 8 }
-}
-
-fn put_record(out: &mut [u8], stream: Stream, bytes: [u8; 8], n: usize) -> usize
-    requires { ⌜ (n ≤ 8) × (8 + n ≤ length (now out)) ⌝ }
+fn put_record(out: &mut [u8], stream: Stream, bytes: [u8; MAX_PAYLOAD], n: usize) -> usize
+    requires { ⌜ (n ≤ maxPayload) × (8 + n ≤ length (now out)) ⌝ }
     ensures { λ r. ⌜ (r ≡ 8 + n) × (now (out .exit) ≡ over (recordOf stream (take n bytes)) (now (out .entry))) ⌝ }
 {
     let s = stream.0;
     let s1 = s / 256;
     let s2 = s1 / 256;
     let s3 = s2 / 256;
-    out[0] = (6 + n) as u8;
+    out[0] = (RecordAt::LEAST_LENGTH + n) as u8;
     out[1] = 0;
-    out[2] = 1;
+    out[2] = RecordAt::KIND as u8;
     out[3] = 0;
     out[4] = (s % 256) as u8;
     out[5] = (s1 % 256) as u8;
@@ -64,10 +61,10 @@ fn put_record(out: &mut [u8], stream: Stream, bytes: [u8; 8], n: usize) -> usize
     out[7] = (s3 % 256) as u8;
     let mut i: usize = 0;
     while i < n {
-        out[8 + i] = bytes[i];
+        out[RecordAt::HEAD + i] = bytes[i];
         i += 1;
     }
-    8 + n
+    RecordAt::HEAD + n
 }
 
 // What stands at a place of some bytes: a record, or none and why. Where there is none, every number
@@ -92,6 +89,9 @@ pub enum Fault {
 }
 
 impl RecordAt {
+    // Length, kind and stream, which stand before the payload.
+    pub const HEAD: usize = 8;
+
     pub const KIND: usize = 1;
 
     // Kind and stream, which the length counts beside the payload.
@@ -126,7 +126,7 @@ pub fn record_at(bytes: &[u8], at: usize) -> RecordAt
     if follow > RecordAt::MOST_LENGTH {
         return no_record(Fault::OtherLength);
     }
-    let payload = 8 + at;
+    let payload = RecordAt::HEAD + at;
     let length = follow - RecordAt::LEAST_LENGTH;
     RecordAt {
         ok: true,

@@ -1,6 +1,6 @@
 -- The lowest of all pending bus identifiers: it is one of them, none is lower, and where none is pending there is none.
-use mathlib.Core.Path.{_≡_, refl, sym, ap}
-use mathlib.Core.Bool.{Bool, true, false, cond, not, _&&_, _||_}
+use mathlib.Core.Path.{_≡_, refl, sym, ap, subst, _∙_}
+use mathlib.Core.Bool.{Bool, true, false, cond, not, _&&_, _||_, and-eq-true-iff}
 use mathlib.Core.List.{List, [], _∷_, _++_}
 use mathlib.Core.List.{List·Memᴰ, List·Memᴰ·head, List·Memᴰ·tail, List·Memᴰ·not-nil, List·Memᴰ·cases-cons}
 use mathlib.Core.List.{List·Memᴰ·append-cases, List·Memᴰ·eq-of-singleton, Memᴰ·cast}
@@ -10,16 +10,18 @@ use native.Mathlib.Omega.{arith}
 use lib.Dec.{leb, ltb}
 use lib.ListN.{length}
 use borrow.Author.Tests.{leb-true, leb-false, le-leb, lt-leb, le-ltb, eq-eqb}
-use Rattle.wire.specs.Identifiers.{maxStream, maxBusId, maxCode, streamOf, join}
+use Rattle.wire.specs.Identifiers.{maxStream, maxBusId, maxCode, streamOf, codeOf, join}
 use Rattle.wire.specs.Settings.{isPlain}
 use Rattle.wire.specs.declared.reply.Reply.the-variants.{ShortOutput, Nothing}
 use Rattle.node.specs.declared.slots.Slot.{Slot}
 use Rattle.node.specs.declared.Node.{Node}
-use Rattle.node.specs.Slots.{isOf, some}
+use Rattle.node.specs.Slots.{empty, isOf, first, some}
 use Rattle.node.specs.Nodes.{Refusals, unlessRefused}
-use Rattle.node.specs.NextFrame.{nextRoom, payloadCode, one, pendingCodes, idsFrom, pendingIn, isNone, lowest}
+use Rattle.node.specs.NextFrame.{nextRoom, payloadCode, one, pendingCodes, idsFrom, pendingIn, isNone, lowest, hasFrame, lowestFrame}
+use Rattle.node.specs.Request.{hasPending}
 use Rattle.node.specs.OldLayout.{pendingIds, giveById, nextByIdRefusals, nextById}
 use Rattle.node.proofs.Choices.{contrary}
+use Rattle.node.proofs.slots.Table.{some-first}
 
 -- ── of any identifiers ──
 -- the lowest of them; one above the highest, where there are none
@@ -61,6 +63,21 @@ lowest-is-one (i ∷ l) h = go (leb i (lowestOrAbove l)) refl (lowest-is-one l)
         let same : min i (lowestOrAbove l) ≡ lowestOrAbove l = omega arith in
         List·Memᴰ·tail (Memᴰ·cast same (rest (omega arith)))
 
+-- of some, the lowest is one of them
+pub lowest-among : (is : List ℕ) → isNone is ≡ false → List·Memᴰ (lowest is) is
+unfolding lowest
+lowest-among [] some = contrary refl some
+lowest-among (i ∷ []) some = List·Memᴰ·head refl
+lowest-among (i ∷ j ∷ is) some = go (leb i (lowest (j ∷ is))) refl (lowest-among (j ∷ is) refl)
+  where
+    go : (t : Bool) → leb i (lowest (j ∷ is)) ≡ t → List·Memᴰ (lowest (j ∷ is)) (j ∷ is) → List·Memᴰ (min i (lowest (j ∷ is))) (i ∷ j ∷ is)
+    go true e rest =
+        let same : i ≡ min i (lowest (j ∷ is)) = omega (arith, leb-true i (lowest (j ∷ is)) e) in
+        subst (λ k. List·Memᴰ k (i ∷ j ∷ is)) same (List·Memᴰ·head refl)
+    go false e rest =
+        let same : lowest (j ∷ is) ≡ min i (lowest (j ∷ is)) = omega (arith, leb-false i (lowest (j ∷ is)) e) in
+        List·Memᴰ·tail (subst (λ k. List·Memᴰ k (j ∷ is)) same rest)
+
 -- ── of a slot's codes ──
 one-code : (t : Bool) (code : ℕ) {c : ℕ} → List·Memᴰ c (one t code) → c ≡ code
 one-code true code m = List·Memᴰ·eq-of-singleton m
@@ -83,86 +100,95 @@ code-at-most-three x c m =
     (λ (m : List·Memᴰ c (one (p .abort) 2)). omega (arith, one-code (p .abort) 2 m))
     (List·Memᴰ·append-cases (one (p .payload) (payloadCode x) ++ one (p .confirmation) 1) m)
 
+some-code : (code : ℕ) (payload confirmation abort : Bool)
+    → isNone (one payload code ++ one confirmation 1 ++ one abort 2) ≡ not (payload || confirmation || abort)
+some-code code true confirmation abort = refl
+some-code code false true abort = refl
+some-code code false false true = refl
+some-code code false false false = refl
+
 -- the frames tried by ascending code
-abbrev pub firstCode : (plain payload confirmation abort : Bool) → ℕ
-firstCode plain payload confirmation abort =
-    cond (not (payload || confirmation || abort)) (maxBusId + 1)
-    (cond (payload && not plain) 0 (cond confirmation 1 (cond abort 2 3)))
+abbrev firstCode : (plain payload confirmation abort : Bool) → ℕ
+firstCode plain payload confirmation abort = cond (payload && not plain) 0 (cond confirmation 1 (cond abort 2 (cond payload 3 0)))
 
 by-flags : (plain payload confirmation abort : Bool)
-    → lowestOrAbove (one payload (cond plain 3 0) ++ one confirmation 1 ++ one abort 2) ≡ firstCode plain payload confirmation abort
-unfolding lowestOrAbove
-by-flags false false false false = refl
-by-flags false false false true = refl
-by-flags false false true false = refl
-by-flags false false true true = refl
+    → lowest (one payload (cond plain 3 0) ++ one confirmation 1 ++ one abort 2) ≡ firstCode plain payload confirmation abort
+unfolding lowest
+by-flags plain false false false = refl
+by-flags plain false false true = refl
+by-flags plain false true false = refl
+by-flags plain false true true = refl
 by-flags false true false false = refl
 by-flags false true false true = refl
 by-flags false true true false = refl
 by-flags false true true true = refl
-by-flags true false false false = refl
-by-flags true false false true = refl
-by-flags true false true false = refl
-by-flags true false true true = refl
 by-flags true true false false = refl
 by-flags true true false true = refl
 by-flags true true true false = refl
 by-flags true true true true = refl
 
 pub lowest-code : (x : Slot)
-    → lowestOrAbove (pendingCodes x) ≡ firstCode (isPlain (x .settings)) (x .pending .payload) (x .pending .confirmation) (x .pending .abort)
+    → lowest (pendingCodes x) ≡ firstCode (isPlain (x .settings)) (x .pending .payload) (x .pending .confirmation) (x .pending .abort)
 lowest-code x = by-flags (isPlain (x .settings)) (x .pending .payload) (x .pending .confirmation) (x .pending .abort)
 
-code-or-none : (x : Slot) → 3 < lowestOrAbove (pendingCodes x) → lowestOrAbove (pendingCodes x) ≡ maxBusId + 1
-code-or-none x h = go (leb (lowestOrAbove (pendingCodes x)) maxBusId) refl
-  where
-    go : (t : Bool) → leb (lowestOrAbove (pendingCodes x)) maxBusId ≡ t → lowestOrAbove (pendingCodes x) ≡ maxBusId + 1
-    go true e =
-        let one-of-them = lowest-is-one (pendingCodes x) (leb-true (lowestOrAbove (pendingCodes x)) maxBusId e) in
-        absurd (omega (arith, code-at-most-three x (lowestOrAbove (pendingCodes x)) one-of-them))
-    go false e = omega (arith, lowest-at-most (pendingCodes x), leb-false (lowestOrAbove (pendingCodes x)) maxBusId e)
-
 -- ── of a slot's identifiers ──
-lowest-ids : (stream : ℕ) (codes : List ℕ) → lowestOrAbove (idsFrom stream codes) ≡ min (stream * 4 + lowestOrAbove codes) (maxBusId + 1)
-unfolding lowestOrAbove
-lowest-ids stream [] = omega arith
-lowest-ids stream (code ∷ codes) = let h = lowest-ids stream codes in omega arith
+none-from : (stream : ℕ) (codes : List ℕ) → isNone (idsFrom stream codes) ≡ isNone codes
+none-from stream [] = refl
+none-from stream (code ∷ codes) = refl
+
+lowest-ids : (stream : ℕ) (codes : List ℕ) → isNone codes ≡ false → lowest (idsFrom stream codes) ≡ stream * 4 + lowest codes
+unfolding lowest
+lowest-ids stream [] some = contrary refl some
+lowest-ids stream (code ∷ []) some = refl
+lowest-ids stream (code ∷ next ∷ codes) some = let h = lowest-ids stream (next ∷ codes) refl in omega arith
 
 module _ (x : Slot) where
-  -- by whether the slot is set up with a number that is a stream's
-  lowest-by : Bool → ℕ
-  lowest-by stream = cond stream (min (x .stream .0 * 4 + lowestOrAbove (pendingCodes x)) (maxBusId + 1)) (maxBusId + 1)
-
-  in-slot : lowestOrAbove (pendingIn x) ≡ lowest-by (x .used && leb (x .stream .0) maxStream)
-  unfolding pendingIn lowestOrAbove lowest-by
-  in-slot = go (x .used && leb (x .stream .0) maxStream)
+  -- a frame is pending, of a slot that is set up with a number that is a stream's
+  pub has-frame : hasFrame x ≡ (hasPending (x .pending) && (x .used && leb (x .stream .0) maxStream))
+  unfolding pendingIn
+  has-frame =
+      go (hasPending (x .pending)) (x .used && leb (x .stream .0) maxStream)
+      (some-code (payloadCode x) (x .pending .payload) (x .pending .confirmation) (x .pending .abort))
     where
-      go : (t : Bool) → lowestOrAbove (cond t (idsFrom (x .stream .0) (pendingCodes x)) []) ≡ lowest-by t
-      go true = lowest-ids (x .stream .0) (pendingCodes x)
-      go false = refl
+      go : (any stream : Bool) → isNone (pendingCodes x) ≡ not any
+          → not (isNone (cond stream (idsFrom (x .stream .0) (pendingCodes x)) [])) ≡ (any && stream)
+      go true true e = rw (none-from (x .stream .0) (pendingCodes x), e)
+      go true false e = refl
+      go false true e = rw (none-from (x .stream .0) (pendingCodes x), e)
+      go false false e = refl
 
-  pub not-set-up : x .used ≡ false → maxBusId + 1 ≡ lowestOrAbove (pendingIn x)
-  unfolding lowest-by
-  not-set-up e = rw (in-slot, e)
+  -- and the first that it gives out
+  module _ (frame : hasFrame x ≡ true) where
+    both : (hasPending (x .pending) ≡ true) × ((x .used && leb (x .stream .0) maxStream) ≡ true)
+    both = and-eq-true-iff (hasPending (x .pending)) _ .0 (sym has-frame ∙ frame)
 
-  pub no-stream : x .used ≡ true → maxStream < x .stream .0 → maxBusId + 1 ≡ lowestOrAbove (pendingIn x)
-  unfolding lowest-by
-  no-stream e h = rw (in-slot, e, lt-leb (x .stream .0) maxStream h)
+    some-pending : isNone (pendingCodes x) ≡ false
+    some-pending =
+        some-code (payloadCode x) (x .pending .payload) (x .pending .confirmation) (x .pending .abort) ∙ ap not (both .0)
 
-  pub no-code : 3 < lowestOrAbove (pendingCodes x) → maxBusId + 1 ≡ lowestOrAbove (pendingIn x)
-  unfolding lowest-by
-  no-code h = rw in-slot (go (x .used && leb (x .stream .0) maxStream))
-    where
-      go : (t : Bool) → maxBusId + 1 ≡ lowest-by t
-      go true = omega (arith, code-or-none x h)
-      go false = refl
+    frame-lowest : lowest (pendingIn x) ≡ x .stream .0 * 4 + lowest (pendingCodes x)
+    unfolding pendingIn
+    frame-lowest = rw (both .1) (lowest-ids (x .stream .0) (pendingCodes x) some-pending)
 
-  pub joined-code : (code : ℕ) → code ≡ lowestOrAbove (pendingCodes x) → code ≤ maxCode → x .used ≡ true → x .stream .0 ≤ maxStream
-      → join (x .stream) code .id ≡ record { 0 = lowestOrAbove (pendingIn x) }
-  unfolding lowest-by join
-  joined-code code is-lowest small used stream =
-      let in-range : min (x .stream .0 * 4 + code) (maxBusId + 1) ≡ x .stream .0 * 4 + code = omega arith in
-      rw (in-slot, used, le-leb (x .stream .0) maxStream stream, le-leb code maxCode small, ← is-lowest, in-range)
+    small : lowest (pendingCodes x) ≤ maxCode
+    small = code-at-most-three x _ (lowest-among (pendingCodes x) some-pending)
+
+    pub frame-code : codeOf (lowestFrame x) ≡ lowest (pendingCodes x)
+    frame-code = omega (arith, frame-lowest, small)
+
+    pub frame-id : lowestFrame x ≡ join (x .stream) (lowest (pendingCodes x)) .id
+    unfolding join
+    frame-id =
+        let stream = and-eq-true-iff (x .used) _ .0 (both .1) .1 in
+        rw (stream, le-leb (lowest (pendingCodes x)) maxCode small, frame-lowest)
+
+-- ── of the first slot with a frame ──
+pub none-in-empty : pendingIn empty ≡ []
+unfolding pendingIn
+none-in-empty = refl
+
+pub some-has-frame : (xs : List Slot) → some hasFrame xs ≡ hasFrame (first hasFrame xs)
+some-has-frame = some-first hasFrame (ap (λ (is : List ℕ). not (isNone is)) none-in-empty)
 
 -- ── where a pending identifier comes from ──
 from-codes : (stream : ℕ) (codes : List ℕ) (i : ℕ) → ((c : ℕ) → List·Memᴰ c codes → c ≤ 3) → List·Memᴰ i (idsFrom stream codes)

@@ -12,12 +12,13 @@ use Rattle.wire.specs.declared.reply.Reply.the-variants.{BadSettings, TableFull
 use Rattle.wire.specs.Settings.{legal}
 use Rattle.node.specs.declared.slots.Slot.{Slot}
 use Rattle.node.specs.declared.Node.{Node}
-use Rattle.node.specs.Slots.{slotFor, empty, isFree, isOf, some}
+use Rattle.node.specs.Slots.{slotFor, isFree, isOf, some}
 use Rattle.node.specs.Nodes.{hasSlot, withSlots, Outcome, refused, done, asAnswered}
 use Rattle.node.specs.SetUp.{setUpRefusals, setUp}
 use Rattle.node.specs.Calls.{Call}
 use Rattle.node.proofs.Cases.{Refuses, here, later}
 use Rattle.node.proofs.set_up.Cases.{set-up-cases}
+use Rattle.node.proofs.set_up.Placing.{isAfter, movedUp, placed}
 use Rattle.node.proofs.rollover.Promises.{Promised, promised}
 use Rattle.node.proofs.slots.Finding.{indexOf, found, missed}
 
@@ -47,9 +48,11 @@ module _ (s : Stream) (settings : Settings) (n : Node) where
           let none : some isFree (n .slots) ≡ false = missed isFree (n .slots) (omega arith) .not-there in
           refused-for (later (ap not good) (later new (here (ap not none))))
 
-      pub stream-set : j < length (n .slots) → (x : Slot) → x ≡ slotFor s settings → Answers (done (withSlots (set (n .slots) j x) n) [])
-      stream-set inside x made =
-          let one : some isFree (n .slots) ≡ true = found isFree (n .slots) (omega arith) .there in
-          let stored = found isFree (n .slots) (omega arith) .changes (λ y. slotFor s settings) empty in
-          let taken = set-up-cases s settings n .accepted-if (record { lawful = good; new = new; room = one }) in
-          answers (done (withSlots (set (n .slots) j x) n) []) (sym (taken ∙ rw (made, free, stored)))
+      pub stream-set : j < length (n .slots) → (k : ℕ) → k ≡ indexOf (isAfter s) (n .slots) → k ≤ j
+          → (m : Node) → m ≡ withSlots (movedUp k (n .slots)) n → (x : Slot) → x ≡ slotFor s settings
+          → Answers (done (withSlots (set (m .slots) k x) m) [])
+      stream-set inside k place before m moved x made =
+          let room : some isFree (n .slots) ≡ true = found isFree (n .slots) (omega arith) .there in
+          let taken = set-up-cases s settings n .accepted-if (record { lawful = good; new = new; room = room }) in
+          let in-place = rw (← place) at (placed (slotFor s settings) (n .slots) (omega arith)) in
+          answers (done (withSlots (set (m .slots) k x) m) []) (sym (taken ∙ rw (moved, made, in-place)))

@@ -19,9 +19,9 @@ use Rattle.node.specs.Nodes.{Outcome, unlessRefused}
 use Rattle.node.specs.Reachable.{All, After, InOrder}
 use Rattle.node.proofs.Choices.{contrary}
 use Rattle.node.proofs.slots.Table.{all-first}
-use Rattle.node.proofs.next_frame.Lowest.{lowestOrAbove, lowest-at-most, lowest-append, none-lower, lowest-is-one, pending-from-slot, refusalsByLowest, by-lowest}
-use Rattle.node.proofs.next_frame.Lowest.{next-by-lowest}
 use Rattle.node.proofs.Cases.{Cases, cases}
+use Rattle.node.proofs.next_frame.Lowest.{lowestOrAbove, lowest-at-most, lowest-append, none-lower, lowest-is-one, lowest-among, none-in-empty}
+use Rattle.node.proofs.next_frame.Lowest.{some-has-frame, pending-from-slot, refusalsByLowest, by-lowest, next-by-lowest}
 
 from-later : (x : Slot) (ys : List Slot) → All (After x) ys → {i : ℕ} → List·Memᴰ i (pendingIds ys) → x .stream .0 < i / 4
 unfolding pendingIds
@@ -53,10 +53,6 @@ none-below : (ids : List ℕ) (low : ℕ) → isNone ids ≡ true → low ≤ ma
 unfolding lowestOrAbove
 none-below [] low none small = omega arith
 none-below (i ∷ is) low none small = contrary none refl
-
-none-in-empty : pendingIn empty ≡ []
-unfolding pendingIn
-none-in-empty = refl
 
 lowest-in-order : (xs : List Slot) → InOrder xs → lowestOrAbove (pendingIn (first hasFrame xs)) ≡ lowestOrAbove (pendingIds xs)
 unfolding pendingIds first
@@ -104,31 +100,6 @@ same-change test f g (x ∷ xs) e = arm (test x) e (same-change test f g xs)
         → cond t (f x ∷ xs) (x ∷ onFirst test f xs) ≡ cond t (g x ∷ xs) (x ∷ onFirst test g xs)
     arm true e rest = rw e
     arm false e rest = rw (rest e)
-
-lowest-among : (is : List ℕ) → isNone is ≡ false → List·Memᴰ (lowest is) is
-unfolding lowest
-lowest-among [] some = contrary refl some
-lowest-among (i ∷ []) some = List·Memᴰ·head refl
-lowest-among (i ∷ j ∷ is) some = go (leb i (lowest (j ∷ is))) refl (lowest-among (j ∷ is) refl)
-  where
-    go : (t : Bool) → leb i (lowest (j ∷ is)) ≡ t → List·Memᴰ (lowest (j ∷ is)) (j ∷ is) → List·Memᴰ (min i (lowest (j ∷ is))) (i ∷ j ∷ is)
-    go true e rest =
-        let same : i ≡ min i (lowest (j ∷ is)) = omega (arith, leb-true i (lowest (j ∷ is)) e) in
-        subst (λ k. List·Memᴰ k (i ∷ j ∷ is)) same (List·Memᴰ·head refl)
-    go false e rest =
-        let same : lowest (j ∷ is) ≡ min i (lowest (j ∷ is)) = omega (arith, leb-false i (lowest (j ∷ is)) e) in
-        List·Memᴰ·tail (subst (λ k. List·Memᴰ k (j ∷ is)) same rest)
-
--- there is one exactly where the first slot that is found has one
-some-has-frame : (xs : List Slot) → some hasFrame xs ≡ hasFrame (first hasFrame xs)
-unfolding some first
-some-has-frame [] = sym (ap (λ (is : List ℕ). not (isNone is)) none-in-empty)
-some-has-frame (x ∷ xs) = arm (hasFrame x) refl (some-has-frame xs)
-  where
-    arm : (t : Bool) → hasFrame x ≡ t → some hasFrame xs ≡ hasFrame (first hasFrame xs)
-        → (t || some hasFrame xs) ≡ hasFrame (cond t x (first hasFrame xs))
-    arm true e rest = sym e
-    arm false e rest = rest
 
 module _ (n : Node) where
   abbrev pub giver : Slot

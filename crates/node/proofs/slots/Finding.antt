@@ -4,7 +4,7 @@ use mathlib.Core.Path.{_≡_, refl, sym, ap, _∙_}
 use mathlib.Core.Bool.{Bool, true, false, cond, false≢true}
 use mathlib.Core.List.{List, [], _∷_, map}
 use mathlib.Core.Logic.{_⊎_, ⊎-elim}
-use Prim.Native.Nat.{ℕ, suc, _+_, _-_, _≤_, _<_}
+use Prim.Native.Nat.{ℕ, zero, suc, _+_, _-_, _≤_, _<_}
 use native.Mathlib.Omega.{arith}
 use native.Mathlib.Numerals.{add-one}
 use lib.ListN.{length, getD, set, drop, length-map, drop-of-length-le}
@@ -48,6 +48,7 @@ module _ (test : Slot → Bool) where
   -- the index is below the length: what stands there, and what storing a slot made of it does
   pub record Found (l : List Slot) : Type 0 where
     pub there : some test l ≡ true
+    pub holds : (d : Slot) → test (getD l (indexOf test l) d) ≡ true
     pub is-first : (d : Slot) → getD l (indexOf test l) d ≡ first test l
     pub changes : (change : Slot → Slot) (d : Slot) → set l (indexOf test l) (change (getD l (indexOf test l) d)) ≡ onFirst test change l
 
@@ -58,14 +59,27 @@ module _ (test : Slot → Bool) where
     where
       go : (b : Bool) → test x ≡ b → (indexOf test xs < length xs → Found xs)
           → cond b 0 (suc (indexOf test xs)) < suc (length xs) → Found (x ∷ xs)
-      go true e rest h = record { there = rw e; is-first = λ d. rw e; changes = λ change d. rw e }
+      go true e rest h = record { there = rw e; holds = λ d. rw e e; is-first = λ d. rw e; changes = λ change d. rw e }
       go false e rest h =
           let r = rest (omega arith) in
           record {
             there = rw e (r .there);
+            holds = λ d. rw e (r .holds d);
             is-first = λ d. rw e (r .is-first d);
             changes = λ change d. rw e (ap (λ (l : List Slot). x ∷ l) (r .changes change d));
           }
+
+  -- before the index it is true of none
+  pub before-first : (l : List Slot) (k : ℕ) (d : Slot) → k < indexOf test l → test (getD l k d) ≡ false
+  unfolding indexOf
+  before-first [] k d h = absurd (omega arith)
+  before-first (x ∷ xs) k d h = go (test x) refl k h (λ j. before-first xs j d)
+    where
+      go : (b : Bool) → test x ≡ b → (j : ℕ) → j < cond b 0 (suc (indexOf test xs))
+          → ((i : ℕ) → i < indexOf test xs → test (getD xs i d) ≡ false) → test (getD (x ∷ xs) j d) ≡ false
+      go true e j h rest = absurd (omega arith)
+      go false e zero h rest = e
+      go false e (suc j) h rest = rest j (omega arith)
 
   -- the index is the length: there is no such slot
   pub record Missed (l : List Slot) : Type 0 where

@@ -35,6 +35,16 @@ unfolding some first
 none-first test [] e = refl
 none-first test (x ∷ xs) e = let h = neither (test x) (some test xs) e in rw (h .0) (none-first test xs (h .1))
 
+-- the test is true of one exactly where it is true of the one found
+pub some-first : (test : Slot → Bool) → test empty ≡ false → (xs : List Slot) → some test xs ≡ test (first test xs)
+unfolding some first
+some-first test none [] = sym none
+some-first test none (x ∷ xs) = arm (test x) refl (some-first test none xs)
+  where
+    arm : (t : Bool) → test x ≡ t → some test xs ≡ test (first test xs) → (t || some test xs) ≡ test (cond t x (first test xs))
+    arm true e rest = sym e
+    arm false e rest = rest
+
 -- ── a change of the first slot ──
 pub length-on-first : (test : Slot → Bool) (change : Slot → Slot) (xs : List Slot) → length (onFirst test change xs) ≡ length xs
 unfolding onFirst

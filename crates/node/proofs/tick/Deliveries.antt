@@ -1,27 +1,14 @@
--- What a tick delivers: of slots with distinct streams exactly those that are due, and not in the order of the slots.
+-- What a tick delivers: of the slots exactly those that are due.
 use mathlib.Core.Path.{_≡_, refl, sym, ap, _∙_}
 use mathlib.Core.Bool.{Bool, true, false, cond, true≢false}
 use mathlib.Core.Logic.{_⊎_, inl, inr, ⊎-elim}
-use mathlib.Core.List.{List, [], _∷_, _++_, List·Memᴰ, List·Memᴰ·head, List·Memᴰ·tail, List·Memᴰ·cases-cons, List·Memᴰ·not-nil}
-use Prim.Native.Nat.{ℕ, _*_}
-use native.Mathlib.Omega.{arith}
-use lib.ListN.{replicate}
-use Rattle.wire.specs.declared.ids.Stream.{Stream}
-use Rattle.wire.specs.declared.settings.Settings.{Settings}
+use mathlib.Core.List.{List, [], _∷_, List·Memᴰ, List·Memᴰ·head, List·Memᴰ·tail, List·Memᴰ·cases-cons, List·Memᴰ·not-nil}
+use Prim.Native.Nat.{ℕ}
 use Rattle.wire.specs.Tells.{Tells}
-use Rattle.wire.specs.Classes.{carries}
-use Rattle.wire.specs.Frames.{badFrame}
-use Rattle.wire.specs.Settings.{ofImd, legal}
-use Rattle.wire.specs.Delivered.{recordOf}
 use Rattle.node.specs.declared.slots.Slot.{Slot}
-use Rattle.node.specs.Slots.{isOf, first, onFirst, some}
-use Rattle.node.specs.Clock.{Clock, rolled}
-use Rattle.node.specs.SetUp.{inPlace, setUp}
-use Rattle.node.specs.Hear.{hearRoom, hear, heardBy, deliveredAtOnce}
-use Rattle.node.specs.Tick.{tickRoom, late, due, holdOver, lapsed, ageOf, dueSlots, recordsFrom, tick}
-use Rattle.node.specs.Calls.{Call, outcome, after}
+use Rattle.node.specs.Clock.{Clock}
+use Rattle.node.specs.Tick.{due, ageOf, dueSlots}
 
--- ── exactly those that are due ──
 module _ (clock : Clock) (now : ℕ) where
   abbrev isDue : Slot → Bool
   isDue x = due (ageOf clock now x) x
@@ -56,34 +43,3 @@ module _ (clock : Clock) (now : ℕ) where
   -- and what is delivered is a slot of the table
   pub delivered-from-table : (xs : List Slot) (z : Slot) → List·Memᴰ z (dueSlots clock now xs) → List·Memᴰ z xs
   delivered-from-table xs z i = due-if-delivered xs z i .0
-
--- ── not in slot order ──
-abbrev pub imd : Settings
-imd = ofImd 0 1 1
-
-abbrev pub nine : Stream
-nine = record { 0 = 9 }
-
-abbrev pub five : Stream
-five = record { 0 = 5 }
-
-abbrev pub data-for : Stream → (byte : ℕ) → Call
-data-for s byte = Call.hear (record { 0 = s .0 * 4 }) 1 (byte ∷ []) (replicate hearRoom 0)
-
-abbrev pub one-tick : Call
-one-tick = Call.tick (replicate tickRoom 0)
-
--- stream 9 has the first slot, and stream 5 the second; each holds data, and both are due at the second tick
-abbrev pub history : List Call
-history = Call.setUp nine imd ∷ Call.setUp five imd ∷ data-for nine 7 ∷ data-for five 8 ∷ one-tick ∷ []
-
-abbrev delivered-then : List ℕ
-delivered-then = outcome rolled one-tick (after rolled history) .bytes
-
-pub lower-stream-first : delivered-then ≡ recordOf five (8 ∷ []) ++ recordOf nine (7 ∷ [])
-unfolding setUp hear heardBy deliveredAtOnce tick late due holdOver lapsed dueSlots recordsFrom recordOf legal badFrame carries first onFirst some inPlace
-lower-stream-first = refl
-
-pub not-in-slot-order : delivered-then ≡ recordOf nine (7 ∷ []) ++ recordOf five (8 ∷ []) → ⊥
-unfolding recordOf
-not-in-slot-order e = let z : _≡_ {A = ℕ} 5 9 = cc lower-stream-first in omega arith

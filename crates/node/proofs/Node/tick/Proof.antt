@@ -40,53 +40,64 @@ room c = has-room (c .before .loop .inv .2) noSlot (c .loop-test .taken)
 
 add-at : tie.Need-add-at Inv-loop μ-loop
 add-at c =
-    let d = c .before .before .before .before .before .before .before .before .before .before .before .before .before .before in
-    let l = d .before .loop .inv in
-    let bytes = c .before .before .before .before .all-bytes .ensures in
-    let wrote = c .before .before .write-record .ensures in
-    let same = slot-as-it-was (l .1) noSlot (d .loop-test .taken) in
-    omega (arith, room d, written-is-small (l .2) noSlot (d .loop-test .taken) _ same _ (c .before .before .before .before .before .before .before .before .before .before .before .before .age .ensures) _ bytes _ (wrote .0))
+    let made = c .before .before .before .before in
+    let aged = made .before .before .before .before .before .before .before .before in
+    let turn = aged .before .before in
+    let h = turn .loop-test .taken in
+    let l = turn .before .loop .inv in
+    let same = slot-as-it-was (l .1) noSlot h in
+    let small = written-is-small (l .2) noSlot h _ same _ (aged .age .ensures) _ (made .all-bytes .ensures) _ (c .before .before .write-record .ensures .0) in
+    omega (arith, room turn, small)
 
 loop-again : tie.Need-loop-again Inv-loop μ-loop
 loop-again c =
-    let d = c .before .before .before .before .before .before .before .before .before .before .before .before .before .before in
-    let h = d .loop-test .taken in
-    let l = d .before .loop .inv in
-    let age = c .before .before .before .before .before .before .before .before .before .before .before .before .age .ensures in
-    let due = sym (c .before .before .before .before .before .before .before .before .due .ensures) ∙ c .before .before .before .before .before .before .before .if3 .taken in
+    let made = c .before .before .before .before in
+    let tested = made .before .before .before in
+    let aged = tested .before .before .before .before .before in
+    let turn = aged .before .before in
+    let h = turn .loop-test .taken in
+    let l = turn .before .loop .inv in
+    let age = aged .age .ensures in
+    let due = sym (tested .before .due .ensures) ∙ tested .if3 .taken in
     let same = slot-as-it-was (l .1) noSlot h in
-    (omega arith, one-lapses (l .1) noSlot h _ age (due-stirs _ _ due) _ (c .before .before .before .before .before .before .stirred .ensures),
-    one-is-written (l .2) noSlot h _ same _ age _ (c .before .before .before .before .all-bytes .ensures) due _ _ (c .before .before .write-record .ensures))
+    let lapses = one-lapses (l .1) noSlot h _ age (due-stirs _ _ due) _ (made .before .before .stirred .ensures) in
+    let writes = one-is-written (l .2) noSlot h _ same _ age _ (made .all-bytes .ensures) due _ _ (c .before .before .write-record .ensures) in
+    (omega arith, lapses, writes)
 
 loop-again-2 : tie.Need-loop-again-2 Inv-loop μ-loop
 loop-again-2 c =
-    let d = c .before .before .before .before .before .before .before .before .before .before in
-    let h = d .loop-test .taken in
-    let l = d .before .loop .inv in
-    let age = c .before .before .before .before .before .before .before .before .age .ensures in
+    let tested = c .before .before .before in
+    let aged = tested .before .before .before .before .before in
+    let turn = aged .before .before in
+    let h = turn .loop-test .taken in
+    let l = turn .before .loop .inv in
+    let age = aged .age .ensures in
+    let not-due = sym (tested .before .due .ensures) ∙ tested .if3 .left in
     let stirs = sym (c .before .before .stirs .ensures) ∙ c .before .if4 .taken in
-    let not-due = sym (c .before .before .before .before .due .ensures) ∙ c .before .before .before .if3 .left in
-    (omega arith, one-lapses (l .1) noSlot h _ age stirs _ (c .stirred2 .ensures), one-is-not-due (l .2) noSlot h _ (slot-as-it-was (l .1) noSlot h) _ age not-due)
+    let same = slot-as-it-was (l .1) noSlot h in
+    (omega arith, one-lapses (l .1) noSlot h _ age stirs _ (c .stirred2 .ensures), one-is-not-due (l .2) noSlot h _ same _ age not-due)
 
 loop-again-3 : tie.Need-loop-again-3 Inv-loop μ-loop
 loop-again-3 c =
-    let d = c .before .before .before .before .before .before .before .before .before in
-    let h = d .loop-test .taken in
-    let l = d .before .loop .inv in
-    let age = c .before .before .before .before .before .before .before .age .ensures in
+    let aged = c .before .before .before .before .before .before .before in
+    let turn = aged .before .before in
+    let h = turn .loop-test .taken in
+    let l = turn .before .loop .inv in
+    let age = aged .age .ensures in
     let still = sym (c .before .stirs .ensures) ∙ c .if4 .left in
-    (omega arith, one-stays (l .1) noSlot h _ age still,
-    one-is-not-due (l .2) noSlot h _ (slot-as-it-was (l .1) noSlot h) _ age (still-is-not-due _ _ still))
+    let same = slot-as-it-was (l .1) noSlot h in
+    (omega arith, one-stays (l .1) noSlot h _ age still, one-is-not-due (l .2) noSlot h _ same _ age (still-is-not-due _ _ still))
 
 loop-again-4 : tie.Need-loop-again-4 Inv-loop μ-loop
 loop-again-4 c =
-    let d = c .before .before .before .before in
-    let h = d .loop-test .taken in
-    let l = d .before .loop .inv in
-    let age = c .before .before .age .ensures in
+    let aged = c .before .before in
+    let turn = aged .before .before in
+    let h = turn .loop-test .taken in
+    let l = turn .before .loop .inv in
+    let age = aged .age .ensures in
     let still = young-is-still _ _ (sym (c .before .may-stir .ensures) ∙ c .if2 .left) in
-    (omega arith, one-stays (l .1) noSlot h _ age still,
-    one-is-not-due (l .2) noSlot h _ (slot-as-it-was (l .1) noSlot h) _ age (still-is-not-due _ _ still))
+    let same = slot-as-it-was (l .1) noSlot h in
+    (omega arith, one-stays (l .1) noSlot h _ age still, one-is-not-due (l .2) noSlot h _ same _ age (still-is-not-due _ _ still))
 
 -- ── done ──
 same-length : tie.Need-same-length Inv-loop μ-loop

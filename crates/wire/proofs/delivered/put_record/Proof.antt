@@ -87,6 +87,7 @@ put-record-spec =
     (λ c. search needs)
     (λ c. search needs)
     slice-write-out-2
+    (λ c. search needs)
     slice-write-out-3
     slice-write-out-4
     (λ c. search needs)

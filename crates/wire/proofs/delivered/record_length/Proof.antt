@@ -16,4 +16,4 @@ unfolding recordLength
 returns-2 c = rw (lt-leb (c .before .args .payload) maxPayload (omega arith))
 
 pub record-length-spec : {M : Type 1} → statement M
-record-length-spec = tie.close (tie.spec (λ c. search needs) returns returns-2)
+record-length-spec = tie.close (tie.spec (λ c. search needs) (λ c. search needs) (λ c. search needs) returns returns-2)

@@ -22,7 +22,7 @@ returns c =
 
 returns-2 : tie.Need-returns-2
 returns-2 c =
-    let cut = c .before .before .before .before .before .at-most-eight .ensures in
+    let cut = c .before .before .before .before .before .at-most-payload .ensures in
     let start = c .before .before .before .before .before .before .before in
     let a = start .args in
     let long = cut-length (a .stream) (a .len) (a .bytes) (eight-bytes start) in

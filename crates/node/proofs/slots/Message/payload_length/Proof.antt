@@ -12,7 +12,7 @@ eight-bytes c = search needs
 returns : tie.Need-returns
 returns c =
     let start = c .before .before in
-    c .at-most-eight .ensures ∙ sym (payload-length (start .args .self) (eight-bytes start))
+    c .at-most-payload .ensures ∙ sym (payload-length (start .args .self) (eight-bytes start))
 
 pub payload-length-spec : {M : Type 1} → statement M
 payload-length-spec = tie.close (tie.spec (λ c. search needs) (λ c κs. search needs) returns)

@@ -1,21 +1,21 @@
+-- `Slot::has_frame` meets its contract: most slots have no frame pending, and that is looked at first.
 use borrow.Author.Needs.{needs}
+use borrow.Author.Tests.{not-true, not-false}
+use mathlib.Core.Path.{sym, _∙_}
+use Rattle.node.proofs.next_frame.Lowest.{has-frame}
 use Rattle.node.proofs.slots.Slot.has_frame.Statement.{statement}
 use Rattle.node.proofs.slots.Slot.has_frame.Tie as tie
-use Rattle.node.proofs.slots.Slot.has_frame.Reads as reads
-use Rattle.node.proofs.slots.Slot.has_frame.Lts as lts
-use Rattle.node.proofs.slots.Pending.any.Reads as any-reads
 
--- src/next_frame.rt:28:13
-any-requires : tie.Need-any-requires
-any-requires c κs = search needs
-
--- src/next_frame.rt:29:13
 returns : tie.Need-returns
-returns c = ?
+returns c =
+    let none = sym (c .before .any .ensures) ∙ not-true _ (c .if1 .taken) in
+    rw (has-frame (c .before .before .before .args .self), none)
 
--- src/next_frame.rt:24:5
 returns-2 : tie.Need-returns-2
-returns-2 c = ?
+returns-2 c =
+    let e = c .before .before in
+    let some = sym (e .before .any .ensures) ∙ not-false _ (e .if1 .left) in
+    rw (has-frame (e .before .before .before .args .self), some)
 
 pub has-frame-spec : {M : Type 1} → statement M
-has-frame-spec = tie.close (tie.spec any-requires returns returns-2)
+has-frame-spec = tie.close (tie.spec (λ c κs. search needs) returns returns-2)

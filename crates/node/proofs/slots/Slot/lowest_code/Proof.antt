@@ -1,38 +1,31 @@
 -- `Slot::lowest_code` meets its contract: the frames are tried by ascending code, and each return rewrites with the tests
 -- that led there.
-use borrow.Author.Needs.{needs}
-use mathlib.Core.Path.{sym, _∙_}
 use Rattle.node.proofs.next_frame.Lowest.{lowest-code}
 use Rattle.node.proofs.slots.Slot.lowest_code.Statement.{statement}
 use Rattle.node.proofs.slots.Slot.lowest_code.Tie as tie
 
 returns : tie.Need-returns
-returns c =
-    let a = c .before in
-    sym (lowest-code (a .before .before .args .self) ∙ rw (← a .any .ensures, c .if1 .taken))
+returns c = rw (lowest-code (c .before .before .before .before .args .self), c .if1 .taken)
 
 returns-2 : tie.Need-returns-2
 returns-2 c =
-    let e = c .before .before .before in
-    sym (lowest-code (e .before .before .before .args .self) ∙ rw (← e .before .any .ensures, e .if1 .left, c .if2 .taken))
+    let e = c .before in
+    rw (lowest-code (e .before .before .before .before .args .self), e .if1 .left, c .if2 .taken)
 
 returns-3 : tie.Need-returns-3
 returns-3 c =
-    let e = c .before .before .before .before in
-    sym (lowest-code (e .before .before .before .args .self)
-    ∙ rw (← e .before .any .ensures, e .if1 .left, c .before .if2 .left, c .if3 .taken))
+    let e = c .before .before in
+    rw (lowest-code (e .before .before .before .before .args .self), e .if1 .left, c .before .if2 .left, c .if3 .taken)
 
 returns-4 : tie.Need-returns-4
 returns-4 c =
-    let e = c .before .before .before .before .before in
-    sym (lowest-code (e .before .before .before .args .self)
-    ∙ rw (← e .before .any .ensures, e .if1 .left, c .before .before .if2 .left, c .before .if3 .left, c .if4 .taken))
+    let e = c .before .before .before in
+    rw (lowest-code (e .before .before .before .before .args .self), e .if1 .left, c .before .before .if2 .left, c .before .if3 .left, c .if4 .taken)
 
 returns-5 : tie.Need-returns-5
 returns-5 c =
-    let e = c .before .before .before .before .before in
-    sym (lowest-code (e .before .before .before .args .self)
-    ∙ rw (← e .before .any .ensures, e .if1 .left, c .before .before .if2 .left, c .before .if3 .left, c .if4 .left))
+    let e = c .before .before .before in
+    rw (lowest-code (e .before .before .before .before .args .self), e .if1 .left, c .before .before .if2 .left, c .before .if3 .left, c .if4 .left)
 
 pub lowest-code-spec : {M : Type 1} → statement M
-lowest-code-spec = tie.close (tie.spec (λ c κs. search needs) returns returns-2 returns-3 returns-4 returns-5)
+lowest-code-spec = tie.close (tie.spec returns returns-2 returns-3 returns-4 returns-5)
