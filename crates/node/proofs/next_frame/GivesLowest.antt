@@ -20,7 +20,7 @@ use Rattle.node.specs.Clock.{Clock}
 use Rattle.node.specs.Calls.{Call, after}
 use Rattle.node.proofs.Choices.{contrary}
 use Rattle.node.proofs.Cases.{by-case}
-use Rattle.node.proofs.next_frame.Lowest.{lowest-is-one, none-lower}
+use Rattle.node.proofs.slot_order.LowestOfAll.{lowest-is-one, none-lower}
 use Rattle.node.proofs.slot_order.NextFrameInOrder.{next-in-order, next-by-id-cases}
 use Rattle.node.proofs.slot_order.InStreamOrder.{stream-order-unseen}
 

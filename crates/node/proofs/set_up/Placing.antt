@@ -87,9 +87,10 @@ unfolding indexOf movedUp inPlace
 placed x [] h = refl
 placed x (y ∷ ys) h = go (isAfter (x .stream) y) (placed x ys) h
   where
-    go : (t : Bool) → (indexOf (isAfter (x .stream)) ys < length ys → set (movedUp (indexOf (isAfter (x .stream)) ys) ys) (indexOf (isAfter (x .stream)) ys) x ≡ inPlace x ys)
-        → cond t 0 (suc (indexOf (isAfter (x .stream)) ys)) < suc (length ys)
-        → (let j = cond t 0 (suc (indexOf (isAfter (x .stream)) ys)) in set (movedUp j (y ∷ ys)) j x)
-        ≡ cond t (x ∷ lessFree (y ∷ ys)) (y ∷ inPlace x ys)
+    k : ℕ
+    k = indexOf (isAfter (x .stream)) ys
+
+    go : (t : Bool) → (k < length ys → set (movedUp k ys) k x ≡ inPlace x ys) → cond t 0 (suc k) < suc (length ys)
+        → set (movedUp (cond t 0 (suc k)) (y ∷ ys)) (cond t 0 (suc k)) x ≡ cond t (x ∷ lessFree (y ∷ ys)) (y ∷ inPlace x ys)
     go true rest h = refl
     go false rest h = ap (λ (l : List Slot). y ∷ l) (rest (omega arith))

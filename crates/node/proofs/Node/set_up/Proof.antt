@@ -8,7 +8,7 @@ use Prim.Native.Nat.{_-_, _≤_, _<_}
 use lib.ListN.{length}
 use Rattle.wire.specs.Settings.{legal}
 use Rattle.node.specs.Slots.{isFree, isOf}
-use Rattle.node.specs.Nodes.{withSlots}
+use Rattle.node.specs.Nodes.{slotCount, withSlots}
 use Rattle.node.proofs.slots.Finding.{length-of-mapped, indexOf, NoneBefore, none-at-first, not-here, search-ends}
 use Rattle.node.proofs.set_up.Placing.{isAfter, further, place-found, movedUp, none-moved, moved-in}
 use Rattle.node.proofs.set_up.Ways.{bad-settings, stream-taken, table-full, stream-set}
@@ -21,14 +21,14 @@ abbrev Inv-loop : tie.InvT-loop
 Inv-loop stream settings self i₀ i = NoneBefore isFree (self .slots) i
 
 abbrev μ-loop : tie.MeasureT-loop
-μ-loop stream settings self i₀ i = 32 - i
+μ-loop stream settings self i₀ i = slotCount - i
 
 -- no slot before k is the stream's
 abbrev Inv-loop2 : tie.InvT-loop2
 Inv-loop2 stream settings self i k₀ k = NoneBefore (isOf stream) (self .slots) k
 
 abbrev μ-loop2 : tie.MeasureT-loop2
-μ-loop2 stream settings self i k₀ k = 32 - k
+μ-loop2 stream settings self i k₀ k = slotCount - k
 
 -- the slots before j stay where they are
 abbrev Inv-loop3 : tie.InvT-loop3
@@ -44,8 +44,18 @@ Inv-loop4 stream settings self₀ i₀ k j self i = (j ≤ i) × (i ≤ i₀) ×
 abbrev μ-loop4 : tie.MeasureT-loop4
 μ-loop4 stream settings self₀ i₀ k j self i = i
 
--- the table has 32 slots
-long : (c : tie.Start Inv-loop μ-loop Inv-loop2 μ-loop2 Inv-loop3 μ-loop3 Inv-loop4 μ-loop4) → length (c .args .t1 .slots) ≡ 32
+-- where the code is
+abbrev Start : Type 0
+Start = tie.Start Inv-loop μ-loop Inv-loop2 μ-loop2 Inv-loop3 μ-loop3 Inv-loop4 μ-loop4
+
+abbrev LeftFree : Type 0
+LeftFree = tie.Left-loop Inv-loop μ-loop Inv-loop2 μ-loop2 Inv-loop3 μ-loop3 Inv-loop4 μ-loop4
+
+abbrev AtPlace : Type 0
+AtPlace = tie.At-loop3 Inv-loop μ-loop Inv-loop2 μ-loop2 Inv-loop3 μ-loop3 Inv-loop4 μ-loop4
+
+-- the table is full length
+long : (c : Start) → length (c .args .t1 .slots) ≡ slotCount
 long c = search (needs, length-of-mapped)
 
 returns : tie.Need-returns Inv-loop μ-loop Inv-loop2 μ-loop2 Inv-loop3 μ-loop3 Inv-loop4 μ-loop4
@@ -53,14 +63,15 @@ returns c =
     let a = c .before .before .args in
     bad-settings (a .stream) (a .settings) (a .t1) (sym (c .before .legal .ensures) ∙ not-true _ (c .if1 .taken))
 
-good : (c : tie.Else1 Inv-loop μ-loop Inv-loop2 μ-loop2 Inv-loop3 μ-loop3 Inv-loop4 μ-loop4) → legal (c .before .before .args .stream) (c .before .before .args .settings) ≡ true
+good : (c : tie.Else1 Inv-loop μ-loop Inv-loop2 μ-loop2 Inv-loop3 μ-loop3 Inv-loop4 μ-loop4)
+    → legal (c .before .before .args .stream) (c .before .before .args .settings) ≡ true
 good c = sym (c .before .legal .ensures) ∙ not-false _ (c .if1 .left)
 
 -- ── the first free slot ──
 loop-holds : tie.Need-loop-holds Inv-loop μ-loop Inv-loop2 μ-loop2 Inv-loop3 μ-loop3 Inv-loop4 μ-loop4
 loop-holds c = none-at-first _ _
 
-abbrev start-1 : tie.At-loop Inv-loop μ-loop Inv-loop2 μ-loop2 Inv-loop3 μ-loop3 Inv-loop4 μ-loop4 → tie.Start Inv-loop μ-loop Inv-loop2 μ-loop2 Inv-loop3 μ-loop3 Inv-loop4 μ-loop4
+abbrev start-1 : tie.At-loop Inv-loop μ-loop Inv-loop2 μ-loop2 Inv-loop3 μ-loop3 Inv-loop4 μ-loop4 → Start
 start-1 c = c .before .before .before
 
 loop-again : tie.Need-loop-again Inv-loop μ-loop Inv-loop2 μ-loop2 Inv-loop3 μ-loop3 Inv-loop4 μ-loop4
@@ -68,7 +79,7 @@ loop-again c =
     let l = c .before .before .before .before in
     not-here _ _ _ _ (omega (arith, long (start-1 l))) (l .loop .inv) (sym (c .before .is-free .ensures) ∙ c .if2 .left)
 
-free : (c : tie.Left-loop Inv-loop μ-loop Inv-loop2 μ-loop2 Inv-loop3 μ-loop3 Inv-loop4 μ-loop4) → c .before .loop .i ≡ indexOf isFree (start-1 (c .before) .args .t1 .slots)
+free : (c : LeftFree) → c .before .loop .i ≡ indexOf isFree (start-1 (c .before) .args .t1 .slots)
 free c =
     let all = long (start-1 (c .before)) in
     search-ends _ _ _ _ (c .before .loop .inv) (λ w. omega arith) (λ w. (omega arith, sym (w .2 .ensures) ∙ w .3 .taken)) (c .loop-test .came)
@@ -77,7 +88,7 @@ free c =
 loop2-holds : tie.Need-loop2-holds Inv-loop μ-loop Inv-loop2 μ-loop2 Inv-loop3 μ-loop3 Inv-loop4 μ-loop4
 loop2-holds c = none-at-first _ _
 
-abbrev start-2 : tie.At-loop2 Inv-loop μ-loop Inv-loop2 μ-loop2 Inv-loop3 μ-loop3 Inv-loop4 μ-loop4 → tie.Start Inv-loop μ-loop Inv-loop2 μ-loop2 Inv-loop3 μ-loop3 Inv-loop4 μ-loop4
+abbrev start-2 : tie.At-loop2 Inv-loop μ-loop Inv-loop2 μ-loop2 Inv-loop3 μ-loop3 Inv-loop4 μ-loop4 → Start
 start-2 c = start-1 (c .before .before)
 
 loop2-again : tie.Need-loop2-again Inv-loop μ-loop Inv-loop2 μ-loop2 Inv-loop3 μ-loop3 Inv-loop4 μ-loop4
@@ -112,14 +123,14 @@ returns-3 c =
 loop3-holds : tie.Need-loop3-holds Inv-loop μ-loop Inv-loop2 μ-loop2 Inv-loop3 μ-loop3 Inv-loop4 μ-loop4
 loop3-holds c = (none-at-first _ _, omega arith)
 
-abbrev free-3 : tie.At-loop3 Inv-loop μ-loop Inv-loop2 μ-loop2 Inv-loop3 μ-loop3 Inv-loop4 μ-loop4 → tie.Left-loop Inv-loop μ-loop Inv-loop2 μ-loop2 Inv-loop3 μ-loop3 Inv-loop4 μ-loop4
+abbrev free-3 : AtPlace → LeftFree
 free-3 c = c .before .before .before .before .before
 
-abbrev start-3 : tie.At-loop3 Inv-loop μ-loop Inv-loop2 μ-loop2 Inv-loop3 μ-loop3 Inv-loop4 μ-loop4 → tie.Start Inv-loop μ-loop Inv-loop2 μ-loop2 Inv-loop3 μ-loop3 Inv-loop4 μ-loop4
+abbrev start-3 : AtPlace → Start
 start-3 c = start-1 (free-3 c .before)
 
 -- a slot is free
-room : (c : tie.At-loop3 Inv-loop μ-loop Inv-loop2 μ-loop2 Inv-loop3 μ-loop3 Inv-loop4 μ-loop4) → free-3 c .before .loop .i < length (start-3 c .args .t1 .slots)
+room : (c : AtPlace) → free-3 c .before .loop .i < length (start-3 c .args .t1 .slots)
 room c = omega (arith, long (start-3 c))
 
 loop3-again : tie.Need-loop3-again Inv-loop μ-loop Inv-loop2 μ-loop2 Inv-loop3 μ-loop3 Inv-loop4 μ-loop4
