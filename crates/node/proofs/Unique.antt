@@ -26,8 +26,8 @@ use Rattle.node.proofs.slots.Slot.due.Reads as due
 use Rattle.node.proofs.slots.Slot.may_stir.Reads as may-stir
 use Rattle.node.proofs.slots.Slot.stirs.Reads as stirs
 use Rattle.node.proofs.slots.Slot.stirred.Reads as stirred
-use Rattle.node.proofs.slots.Slot.lowest_code.Reads as lowest-code
 use Rattle.node.proofs.slots.Slot.has_frame.Reads as has-frame
+use Rattle.node.proofs.slots.Slot.lowest_code.Reads as lowest-code
 use Rattle.node.proofs.slots.Slot.given_out.Reads as given-out
 use Rattle.node.proofs.slots.Message.payload_length.Reads as payload-length
 use Rattle.node.proofs.slots.Message.same.Reads as same-payload
@@ -121,11 +121,11 @@ is-busy-unique l input a b s t = same
 pub slot-set-up-unique : OneAnswer slot-set-up.Post
 slot-set-up-unique l input a b s t = same
 
-pub lowest-code-unique : OneAnswer lowest-code.Post
-lowest-code-unique l input a b s t = same
-
 pub has-frame-unique : OneAnswer has-frame.Post
 has-frame-unique l input a b s t = same
+
+pub lowest-code-unique : OneAnswer lowest-code.Post
+lowest-code-unique l input a b s t = same
 
 pub given-out-unique : OneAnswer given-out.Post
 given-out-unique l input a b s t = same

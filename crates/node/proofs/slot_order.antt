@@ -2,6 +2,7 @@
 pub mod Reordered
 pub mod Settled
 pub mod Placed
+pub mod LowestOfAll
 pub mod Records
 pub mod EveryCall
 pub mod InPlace

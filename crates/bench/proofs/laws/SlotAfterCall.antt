@@ -39,7 +39,7 @@ use Rattle.node.proofs.next_frame.Cases.{next-cases}
 use Rattle.node.proofs.tick.Ascending.{Before, Ascends, due-ascend, only-due, due-of-stream}
 use Rattle.node.proofs.kept.EachSlot.{kept-empty}
 use Rattle.node.proofs.tick.Tests.{Due, late-tells, due-tells}
-use Rattle.node.proofs.next_frame.Lowest.{lowestOrAbove, lowest-is-one}
+use Rattle.node.proofs.slot_order.LowestOfAll.{lowestOrAbove, lowest-is-one}
 use Rattle.node.proofs.slots.InOrder.{in-order-distinct}
 use Rattle.node.proofs.slot_order.NextFrameInOrder.{giver, giver-of-stream, next-by-id-cases}
 use Rattle.node.proofs.slots.Streams.{Kind, KeepsKind, heard-keeps, requested-keeps, given-out-keeps, lowest-given-keeps, slot-of-changed, slot-of-ticked}

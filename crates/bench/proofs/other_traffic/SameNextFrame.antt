@@ -20,7 +20,7 @@ use Rattle.node.specs.Nodes.{slotOf}
 use Rattle.node.specs.Reachable.{Kept}
 use Rattle.node.specs.NextFrame.{one, idsFrom, payloadCode, pendingCodes, pendingIn, payloadFor}
 use Rattle.node.specs.OldLayout.{pendingIds, giveById}
-use Rattle.node.proofs.next_frame.Lowest.{lowestOrAbove, lowest-append}
+use Rattle.node.proofs.slot_order.LowestOfAll.{lowestOrAbove, lowest-append}
 use Rattle.node.proofs.slot_order.NextFrameInOrder.{next-by-id-cases}
 use Rattle.one_stream.proofs.Truth.{cond-elim, and-r, both, is-true, so}
 use Rattle.bench.specs.SetUp.{isDone}

@@ -48,11 +48,11 @@ module _ (s : Stream) (settings : Settings) (n : Node) where
           let none : some isFree (n .slots) ≡ false = missed isFree (n .slots) (omega arith) .not-there in
           refused-for (later (ap not good) (later new (here (ap not none))))
 
-      module _ (inside : j < length (n .slots)) (x : Slot) (made : x ≡ slotFor s settings) (k : ℕ) (place : k ≡ indexOf (isAfter (slotFor s settings)) (n .slots))
-          (before : k ≤ j) where
-        pub stream-set : Answers (done (withSlots (set (movedUp k (n .slots)) k x) n) [])
-        stream-set =
-            let room : some isFree (n .slots) ≡ true = found isFree (n .slots) (omega arith) .there in
-            let taken = set-up-cases s settings n .accepted-if (record { lawful = good; new = new; room = room }) in
-            let in-place = placed (slotFor s settings) (n .slots) (omega arith) in
-            answers (done (withSlots (set (movedUp k (n .slots)) k x) n) []) (sym (taken ∙ rw (made, place, in-place)))
+      pub stream-set : j < length (n .slots) → (k : ℕ) → k ≡ indexOf (isAfter s) (n .slots) → k ≤ j
+          → (m : Node) → m ≡ withSlots (movedUp k (n .slots)) n → (x : Slot) → x ≡ slotFor s settings
+          → Answers (done (withSlots (set (m .slots) k x) m) [])
+      stream-set inside k place before m moved x made =
+          let room : some isFree (n .slots) ≡ true = found isFree (n .slots) (omega arith) .there in
+          let taken = set-up-cases s settings n .accepted-if (record { lawful = good; new = new; room = room }) in
+          let in-place = rw (← place) at (placed (slotFor s settings) (n .slots) (omega arith)) in
+          answers (done (withSlots (set (m .slots) k x) m) []) (sym (taken ∙ rw (moved, made, in-place)))

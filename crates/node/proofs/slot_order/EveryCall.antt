@@ -24,7 +24,7 @@ use Rattle.node.proofs.Cases.{Passes}
 use Rattle.node.proofs.set_up.Cases.{SetUpFacts, set-up-facts}
 use Rattle.node.proofs.slots.Table.{all-replicate}
 use Rattle.node.proofs.slots.Streams.{KeepsKind, heard-keeps, requested-keeps, given-out-keeps, distinct-fresh}
-use Rattle.node.proofs.next_frame.Lowest.{lowestOrAbove, refusalsByLowest, next-by-lowest}
+use Rattle.node.proofs.slot_order.LowestOfAll.{lowestOrAbove, refusalsByLowest, next-by-lowest}
 use Rattle.node.proofs.slot_order.Reordered.{some-reordered, first-reordered, on-first-reordered}
 use Rattle.node.proofs.slot_order.Settled.{EmptyIfFree, one-of-stream, free-alike, settled-reordered, settled-on-slot, settled-map, settled-set-up}
 use Rattle.node.proofs.slot_order.Settled.{tick-keeps, none-ticked}

@@ -1,6 +1,5 @@
 -- With the slots in stream order every history has the same answers as in the old layout, and leaves the same slots.
-use mathlib.Core.Path.{_≡_, refl, sym, subst, _∙_}
-use mathlib.Core.List.{List, Permᴰ·symm}
+use mathlib.Core.Path.{_≡_, refl, sym, _∙_}
 use Rattle.wire.specs.Identifiers.{streamOf, codeOf}
 use Rattle.node.specs.declared.Node.{Node}
 use Rattle.node.specs.Slots.{isOf}
@@ -11,7 +10,7 @@ use Rattle.node.specs.Hear.{heardBy}
 use Rattle.node.specs.Tick.{tickSlot}
 use Rattle.node.specs.Request.{requested}
 use Rattle.node.specs.NextFrame.{hasFrame, lowestGiven, give}
-use Rattle.node.specs.Calls.{Call, outcome, answerOf, after}
+use Rattle.node.specs.Calls.{Call, outcome, answerOf}
 use Rattle.node.specs.Reachable.{InOrder}
 use Rattle.node.specs.OldLayout.{firstFree, outcomeIn, oldOutcome}
 use Rattle.node.specs.SlotOrder.{SameSlots, StreamOrderUnseen}

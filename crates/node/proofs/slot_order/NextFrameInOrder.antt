@@ -1,10 +1,10 @@
 -- On slots in stream order the first slot with a frame pending has the lowest of all.
 use Prim.Native.Nat.{ℕ, _+_, _/_, _≤_, _<_, min}
 use native.Mathlib.Omega.{arith}
-use mathlib.Core.Path.{_≡_, refl, sym, ap, subst, _∙_}
-use mathlib.Core.Bool.{Bool, true, false, cond, not, _||_, and-eq-true-iff}
+use mathlib.Core.Path.{_≡_, refl, sym, ap, _∙_}
+use mathlib.Core.Bool.{Bool, true, false, cond, not, and-eq-true-iff}
 use mathlib.Core.Logic.{⊎-elim}
-use mathlib.Core.List.{List, [], _∷_, _++_, List·Memᴰ, List·Memᴰ·head, List·Memᴰ·tail, List·Memᴰ·not-nil, List·Memᴰ·append-cases}
+use mathlib.Core.List.{List, [], _∷_, List·Memᴰ, List·Memᴰ·head, List·Memᴰ·not-nil, List·Memᴰ·append-cases}
 use borrow.Author.Tests.{eqb-true, ne-eqb, leb-true, leb-false, ltb-false, le-ltb, not-true}
 use lib.Dec.{leb}
 use lib.ListN.{length}
@@ -12,16 +12,17 @@ use Rattle.wire.specs.declared.ids.Stream.{Stream}
 use Rattle.wire.specs.Identifiers.{maxBusId, streamOf, codeOf}
 use Rattle.node.specs.declared.slots.Slot.{Slot}
 use Rattle.node.specs.declared.Node.{Node}
-use Rattle.node.specs.Slots.{empty, isOf, first, onFirst, some}
-use Rattle.node.specs.NextFrame.{pendingIn, isNone, lowest, nextRoom, givenOut, hasFrame, lowestFrame, lowestGiven, give, nextRefusals, nextFrame}
+use Rattle.node.specs.Slots.{isOf, first, onFirst, some}
+use Rattle.node.specs.NextFrame.{pendingIn, isNone, nextRoom, givenOut, hasFrame, lowestFrame, lowestGiven, give, nextRefusals, nextFrame}
 use Rattle.node.specs.OldLayout.{pendingIds, giveById, nextByIdRefusals, nextById}
 use Rattle.node.specs.Nodes.{Outcome, unlessRefused}
 use Rattle.node.specs.Reachable.{All, After, InOrder}
 use Rattle.node.proofs.Choices.{contrary}
 use Rattle.node.proofs.slots.Table.{all-first}
 use Rattle.node.proofs.Cases.{Cases, cases}
-use Rattle.node.proofs.next_frame.Lowest.{lowestOrAbove, lowest-at-most, lowest-append, none-lower, lowest-is-one, lowest-among, none-in-empty}
-use Rattle.node.proofs.next_frame.Lowest.{some-has-frame, pending-from-slot, refusalsByLowest, by-lowest, next-by-lowest}
+use Rattle.node.proofs.next_frame.Lowest.{lowest-among, none-in-empty, some-has-frame, pending-from-slot}
+use Rattle.node.proofs.slot_order.LowestOfAll.{lowestOrAbove, lowest-at-most, lowest-append, none-lower, lowest-is-one}
+use Rattle.node.proofs.slot_order.LowestOfAll.{refusalsByLowest, by-lowest, next-by-lowest}
 
 from-later : (x : Slot) (ys : List Slot) → All (After x) ys → {i : ℕ} → List·Memᴰ i (pendingIds ys) → x .stream .0 < i / 4
 unfolding pendingIds

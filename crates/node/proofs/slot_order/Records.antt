@@ -15,7 +15,7 @@ use Rattle.node.specs.SlotOrder.{Distinct}
 use Rattle.node.proofs.Choices.{neither}
 use Rattle.node.proofs.tick.Tests.{due-tells}
 use Rattle.node.proofs.slot_order.Placed.{Compared, below, equal, above, compared, placed-before, placed-instead, placed-after}
-use Rattle.node.proofs.next_frame.Lowest.{lowestOrAbove, lowest-append}
+use Rattle.node.proofs.slot_order.LowestOfAll.{lowestOrAbove, lowest-append}
 use Rattle.node.proofs.slot_order.Settled.{distinct-reordered}
 
 -- ── two slots placed, in either order ──

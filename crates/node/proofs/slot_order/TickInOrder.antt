@@ -1,6 +1,6 @@
 -- On slots in stream order the due slots stand in the order in which the old layout places them, so that a tick writes the same records.
 use Prim.Native.Nat.{ℕ}
-use mathlib.Core.Path.{_≡_, refl, sym, ap, _∙_}
+use mathlib.Core.Path.{_≡_, refl, sym}
 use mathlib.Core.Bool.{Bool, true, false, cond}
 use mathlib.Core.List.{List, [], _∷_}
 use Rattle.node.specs.declared.slots.Slot.{Slot}

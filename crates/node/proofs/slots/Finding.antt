@@ -1,16 +1,14 @@
 -- Finding a slot by its index: what stands there is the first slot of which the test is true, and where the index is
 -- the table's length there is none. Also a turn of the loop that finds it, from the front of the table on.
 use mathlib.Core.Path.{_≡_, refl, sym, ap, _∙_}
-use mathlib.Core.Bool.{Bool, true, false, cond, false≢true}
+use mathlib.Core.Bool.{Bool, true, false, cond}
 use mathlib.Core.List.{List, [], _∷_, map}
 use mathlib.Core.Logic.{_⊎_, ⊎-elim}
-use Prim.Native.Nat.{ℕ, zero, suc, _+_, _-_, _≤_, _<_}
+use Prim.Native.Nat.{ℕ, zero, suc, _+_, _≤_, _<_}
 use native.Mathlib.Omega.{arith}
 use native.Mathlib.Numerals.{add-one}
 use lib.ListN.{length, getD, set, drop, length-map, drop-of-length-le}
 use lib.Seq.{drop-cons}
-use lib.Dec.{leb}
-use borrow.Author.Tests.{leb-true, leb-false}
 use Rattle.wire.specs.declared.ids.Stream.{Stream}
 use Rattle.node.specs.declared.slots.Slot.{Slot}
 use Rattle.node.specs.declared.Node.{Node}
@@ -37,12 +35,6 @@ noSlot =
 -- a list is as long as its image: what `search` lacks at an array of structs in a struct
 pub length-of-mapped : (X Y : Type 0) (f : X → Y) (l : List X) (n : ℕ) → length (map f l) ≡ n → length l ≡ n
 length-of-mapped X Y f l n p = sym (length-map l f) ∙ p
-
--- a loop from the end of the table to its front: the slot before i, and those from i on
-pub step-back : (l : List Slot) (i : ℕ) (d : Slot) → 0 < i → i ≤ length l → drop (i - 1) l ≡ getD l (i - 1) d ∷ drop i l
-step-back l i d some-left inside =
-    let next : suc (i - 1) ≡ i = omega arith in
-    drop-cons l (i - 1) d (omega arith) ∙ ap (λ (k : ℕ). getD l (i - 1) d ∷ drop k l) next
 
 module _ (test : Slot → Bool) where
   -- the index is below the length: what stands there, and what storing a slot made of it does
@@ -102,13 +94,6 @@ module _ (test : Slot → Bool) where
             is-empty = rw e (r .is-empty);
             unchanged = λ change. rw e (ap (λ (l : List Slot). x ∷ l) (r .unchanged change));
           }
-
-  pub some-found : (l : List Slot) → some test l ≡ true → indexOf test l < length l
-  some-found l there = go (leb (length l) (indexOf test l)) refl
-    where
-      go : (t : Bool) → leb (length l) (indexOf test l) ≡ t → indexOf test l < length l
-      go true e = absurd (false≢true (sym (missed l (leb-true (length l) (indexOf test l) e) .not-there) ∙ there))
-      go false e = leb-false (length l) (indexOf test l) e
 
   -- ── the loop: of no slot before i the test is true ──
   abbrev pub NoneBefore : List Slot → (i : ℕ) → Type 0

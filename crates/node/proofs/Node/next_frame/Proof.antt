@@ -5,6 +5,7 @@ use mathlib.Core.Path.{_≡_, sym, _∙_}
 use Prim.Native.Nat.{_-_}
 use lib.ListN.{length}
 use denote.Ref.{now}
+use Rattle.node.specs.Nodes.{slotCount}
 use Rattle.node.specs.NextFrame.{hasFrame}
 use Rattle.node.proofs.slots.Finding.{length-of-mapped, indexOf, NoneBefore, none-at-first, not-here, search-ends}
 use Rattle.node.proofs.next_frame.Ways.{short-output, none-pending, frame-given}
@@ -17,10 +18,10 @@ abbrev Inv-loop : tie.InvT-loop
 Inv-loop out self i₀ i = NoneBefore hasFrame (self .slots) i
 
 abbrev μ-loop : tie.MeasureT-loop
-μ-loop out self i₀ i = 32 - i
+μ-loop out self i₀ i = slotCount - i
 
--- the table has 32 slots
-long : (c : tie.Start Inv-loop μ-loop) → length (c .args .t1 .slots) ≡ 32
+-- the table is full length
+long : (c : tie.Start Inv-loop μ-loop) → length (c .args .t1 .slots) ≡ slotCount
 long c = search (needs, length-of-mapped)
 
 returns : tie.Need-returns Inv-loop μ-loop
