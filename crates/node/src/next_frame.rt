@@ -31,7 +31,7 @@ impl Slot {
         self.used & (self.stream.0 <= Stream::MAX)
     }
 
-    // The lowest code of the slot's pending frames.
+    // The lowest code of the slot's pending frames; 0, where it has none.
     pub fn lowest_code(self) -> u32
         ensures { λ r. ⌜ r ≡ lowest (pendingCodes self) ⌝ }
     {
