@@ -18,6 +18,7 @@ use Rattle.node.proofs.slots.Slot.set_up.Reads as slot-set-up
 use Rattle.node.proofs.slots.Slot.hear_reply.Reads as hear-reply
 use Rattle.node.proofs.slots.Slot.hear.Reads as slot-hear
 use Rattle.node.proofs.hear.deliver_plain.Reads as deliver-plain
+use Rattle.node.proofs.next_frame.give_payload.Reads as give-payload
 use Rattle.node.proofs.slots.Slot.request_reply.Reads as request-reply
 use Rattle.node.proofs.slots.Slot.requested.Reads as requested
 use Rattle.node.proofs.tick.next.Reads as next
@@ -71,6 +72,12 @@ deliver-plain-unique l input a b s t p q = same (p .0) (q .0)
 
 pub deliver-plain-content-unique : OneContent deliver-plain.Post (λ l e. now (e .0))
 deliver-plain-content-unique l input a b s t p q = same (p .1) (q .1)
+
+pub give-payload-unique : OneAnswer give-payload.Post
+give-payload-unique l input a b s t p q = same (p .0) (q .0)
+
+pub give-payload-content-unique : OneContent give-payload.Post (λ l e. now (e .0))
+give-payload-content-unique l input a b s t p q = same (p .1 .0) (q .1 .0)
 
 pub request-reply-unique : OneAnswer request-reply.Post
 request-reply-unique l input a b s t = same
