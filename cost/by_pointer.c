@@ -3,20 +3,7 @@
 
 struct answered set_up(struct node *node, uint32_t stream, struct settings settings)
 {
-    size_t i;
-
-    if (!legal(stream, &settings)) {
-        return (struct answered){BAD_SETTINGS};
-    }
-    if (find(node, stream) < SLOTS) {
-        return (struct answered){TAKEN};
-    }
-    i = find_free(node);
-    if (i == SLOTS) {
-        return (struct answered){TABLE_FULL};
-    }
-    node->slots[i] = (struct slot){.stream = stream, .settings = settings, .used = true};
-    return (struct answered){DONE};
+    return (struct answered){legal(stream, &settings) ? put_in(node, stream, settings) : BAD_SETTINGS};
 }
 
 struct delivered hear(struct node *node, uint32_t id, uint8_t dlc, const uint8_t *payload, size_t len, uint8_t *out,
@@ -71,15 +58,18 @@ struct answered request(struct node *node, uint32_t stream, const uint8_t *paylo
 
 struct given next_frame(struct node *node, uint8_t *out, size_t room)
 {
-    uint32_t id = 0;
+    struct slot *slot;
+    uint32_t code;
     size_t i;
 
     if (room < 8) {
         return (struct given){SHORT_OUTPUT, 0, 0};
     }
-    i = lowest(node, &id);
+    i = first_pending(node);
     if (i == SLOTS) {
         return (struct given){NOTHING, 0, 0};
     }
-    return (struct given){DONE, id, give_out(&node->slots[i], id % 4, out)};
+    slot = &node->slots[i];
+    code = lowest_code(slot);
+    return (struct given){DONE, slot->stream * 4 + code, give_out(slot, code, out)};
 }

@@ -3,20 +3,9 @@
 
 struct answered set_up(struct node node, uint32_t stream, struct settings settings)
 {
-    size_t i;
+    enum reply reply = legal(stream, &settings) ? put_in(&node, stream, settings) : BAD_SETTINGS;
 
-    if (!legal(stream, &settings)) {
-        return (struct answered){node, BAD_SETTINGS};
-    }
-    if (find(&node, stream) < SLOTS) {
-        return (struct answered){node, TAKEN};
-    }
-    i = find_free(&node);
-    if (i == SLOTS) {
-        return (struct answered){node, TABLE_FULL};
-    }
-    node.slots[i] = (struct slot){.stream = stream, .settings = settings, .used = true};
-    return (struct answered){node, DONE};
+    return (struct answered){node, reply};
 }
 
 struct delivered hear(struct node node, uint32_t id, uint8_t dlc, const uint8_t *payload, size_t len, uint8_t *out,
@@ -78,17 +67,20 @@ struct answered request(struct node node, uint32_t stream, const uint8_t *payloa
 
 struct given next_frame(struct node node, uint8_t *out, size_t room)
 {
-    uint32_t id = 0;
+    struct slot *slot;
+    uint32_t code;
     size_t len;
     size_t i;
 
     if (room < 8) {
         return (struct given){node, SHORT_OUTPUT, 0, 0};
     }
-    i = lowest(&node, &id);
+    i = first_pending(&node);
     if (i == SLOTS) {
         return (struct given){node, NOTHING, 0, 0};
     }
-    len = give_out(&node.slots[i], id % 4, out);
-    return (struct given){node, DONE, id, len};
+    slot = &node.slots[i];
+    code = lowest_code(slot);
+    len = give_out(slot, code, out);
+    return (struct given){node, DONE, slot->stream * 4 + code, len};
 }

@@ -30,25 +30,45 @@ static inline bool legal(uint32_t stream, const struct settings *s)
     }
 }
 
-/* The index of the stream's slot, SLOTS where it has none. */
-static inline size_t find(const struct node *node, uint32_t stream)
+/* The slots that are used come first, by ascending stream. Where the stream's slot stands, or would stand. */
+static inline size_t place(const struct node *node, uint32_t stream)
 {
-    for (size_t i = 0; i < SLOTS; i++) {
-        if (node->slots[i].used && node->slots[i].stream == stream) {
-            return i;
-        }
+    size_t i = 0;
+
+    while (i < SLOTS && node->slots[i].used && node->slots[i].stream < stream) {
+        i++;
     }
-    return SLOTS;
+    return i;
 }
 
-static inline size_t find_free(const struct node *node)
+/* Whether the slot at this place is the stream's. */
+static inline bool is_of(const struct node *node, size_t i, uint32_t stream)
 {
-    for (size_t i = 0; i < SLOTS; i++) {
-        if (!node->slots[i].used) {
-            return i;
-        }
+    return i < SLOTS && node->slots[i].used && node->slots[i].stream == stream;
+}
+
+static inline size_t find(const struct node *node, uint32_t stream)
+{
+    size_t i = place(node, stream);
+
+    return is_of(node, i, stream) ? i : SLOTS;
+}
+
+/* Puts the slot of a stream in its place, unless it is there or the last slot is used. */
+static inline enum reply put_in(struct node *node, uint32_t stream, struct settings settings)
+{
+    struct slot *slots = node->slots;
+    size_t i = place(node, stream);
+
+    if (is_of(node, i, stream)) {
+        return TAKEN;
     }
-    return SLOTS;
+    if (slots[SLOTS - 1].used) {
+        return TABLE_FULL;
+    }
+    memmove(&slots[i + 1], &slots[i], (SLOTS - 1 - i) * sizeof slots[0]);
+    slots[i] = (struct slot){.stream = stream, .settings = settings, .used = true};
+    return DONE;
 }
 
 static inline size_t write_record(uint8_t *out, uint32_t stream, const uint8_t *bytes, size_t len)
@@ -141,38 +161,19 @@ static inline bool lapse(struct slot *slot, uint16_t counter)
     return age > s->dd;
 }
 
-/* Of the due slots the one with the least stream, SLOTS where none is due. */
-static inline size_t least(const struct node *node, uint32_t due)
-{
-    size_t best = SLOTS;
-
-    for (size_t i = 0; i < SLOTS; i++) {
-        if ((due >> i & 1) && (best == SLOTS || node->slots[i].stream < node->slots[best].stream)) {
-            best = i;
-        }
-    }
-    return best;
-}
-
-/* Moves the counter and writes the records of what is due, by ascending stream. */
+/* Moves the counter and writes the records of what is due, in the order of the slots. */
 static inline size_t tick_all(struct node *node, uint8_t *out)
 {
-    uint32_t due = 0;
     size_t written = 0;
 
     node->counter++;
     for (size_t i = 0; i < SLOTS; i++) {
-        if (lapse(&node->slots[i], node->counter)) {
-            due |= UINT32_C(1) << i;
-        }
-    }
-    while (due != 0) {
-        size_t i = least(node, due);
         struct slot *slot = &node->slots[i];
 
-        written += write_record(out + written, slot->stream, slot->message.bytes, slot->message.len);
-        memset(&slot->message, 0, sizeof slot->message);
-        due &= ~(UINT32_C(1) << i);
+        if (lapse(slot, node->counter)) {
+            written += write_record(out + written, slot->stream, slot->message.bytes, slot->message.len);
+            memset(&slot->message, 0, sizeof slot->message);
+        }
     }
     return written;
 }
@@ -197,7 +198,20 @@ static inline enum reply request_by(struct slot *slot, uint16_t counter, const u
     return DONE;
 }
 
-/* The lowest code of the slot's pending frames, 4 where none is pending. */
+/* The first slot with a frame pending, SLOTS where none is. */
+static inline size_t first_pending(const struct node *node)
+{
+    for (size_t i = 0; i < SLOTS; i++) {
+        const struct pending *p = &node->slots[i].pending;
+
+        if (p->payload || p->confirmation || p->abort) {
+            return i;
+        }
+    }
+    return SLOTS;
+}
+
+/* The lowest code of the pending frames of a slot that has one. */
 static inline uint32_t lowest_code(const struct slot *slot)
 {
     if (slot->pending.payload && slot->settings.class_ != PLAIN) {
@@ -206,26 +220,7 @@ static inline uint32_t lowest_code(const struct slot *slot)
     if (slot->pending.confirmation) {
         return CODE_CONFIRMATION;
     }
-    if (slot->pending.abort) {
-        return CODE_ABORT;
-    }
-    return slot->pending.payload ? CODE_PLAIN : 4;
-}
-
-/* The slot with the lowest pending identifier, SLOTS where no frame is pending. */
-static inline size_t lowest(const struct node *node, uint32_t *id)
-{
-    size_t best = SLOTS;
-
-    for (size_t i = 0; i < SLOTS; i++) {
-        uint32_t code = lowest_code(&node->slots[i]);
-
-        if (code < 4 && (best == SLOTS || node->slots[i].stream * 4 + code < *id)) {
-            best = i;
-            *id = node->slots[i].stream * 4 + code;
-        }
-    }
-    return best;
+    return slot->pending.abort ? CODE_ABORT : CODE_PLAIN;
 }
 
 /* The slot's frame with this code is given out; its payload goes to the front of the output. */

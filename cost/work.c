@@ -7,7 +7,7 @@
 #include "node.h"
 
 enum call { CALL_HEAR, CALL_TICK, CALL_REQUEST, CALL_NEXT_FRAME, CALL_SET_UP, ANY_CALL };
-enum streams { MIXED, RECEIVED, SENT };
+enum streams { MIXED, RECEIVED, SENT, TWO_RECEIVED, TWO_SENT, HIGHEST_LAST };
 
 struct asked {
     uint32_t number;
@@ -41,6 +41,9 @@ static uint32_t stream_of(uint32_t k)
 {
     return (k % 64 * 13 + 7) % 64 * 4099 + 5;
 }
+
+/* Of the streams 57 to 88 the last has the highest number of all. */
+enum { BELOW_HIGHEST = 57, HIGHEST = 88 };
 
 static struct settings settings_of(uint8_t role, uint32_t class_)
 {
@@ -102,6 +105,12 @@ static struct asked frame(uint32_t random)
     };
 }
 
+/* Data with eight bytes; half with another first byte. */
+static struct asked data(uint32_t stream, uint32_t random)
+{
+    return (struct asked){.number = stream * 4, .dlc = 8, .len = 8, .first = random / 65536 % 2, .room = 512};
+}
+
 static struct asked message(uint32_t random)
 {
     uint32_t h = random / 65536;
@@ -125,15 +134,31 @@ static struct asked stream(uint64_t i, uint32_t random)
 
 static const uint8_t fixed[9] = {0, 1, 2, 3, 4, 5, 6, 7, 8};
 
+static struct settings settings_in(enum streams which, uint32_t k)
+{
+    switch (which) {
+    case MIXED:
+        return settings_of(role_of(k), k % 3);
+    case RECEIVED:
+        return settings_of(RECEIVE, 1 + k % 2);
+    case SENT:
+        return settings_of(SEND, k % 3);
+    case TWO_RECEIVED:
+        return settings_of(RECEIVE, TWO_MESSAGE);
+    case TWO_SENT:
+        return settings_of(SEND, TWO_MESSAGE);
+    default:
+        return settings_of(RECEIVE, IMD);
+    }
+}
+
 static struct node streams(enum streams which)
 {
+    uint32_t first = which == HIGHEST_LAST ? BELOW_HIGHEST : 0;
     struct node node = {0};
 
     for (uint32_t k = 0; k < 32; k++) {
-        struct settings s = which == MIXED      ? settings_of(role_of(k), k % 3)
-                            : which == RECEIVED ? settings_of(RECEIVE, 1 + k % 2)
-                                                : settings_of(SEND, k % 3);
-        struct answered a = set_up(LENT(node), stream_of(k), s);
+        struct answered a = set_up(LENT(node), stream_of(first + k), settings_in(which, k));
 
         BACK(node, a);
     }
@@ -149,26 +174,58 @@ static struct node ticked(struct node node)
     return node;
 }
 
-/* The node once it heard data and a confirmation of stream k. */
+/* The node once it heard data of stream k. */
 static struct node heard(struct node node, uint32_t k)
 {
     uint8_t out[16];
     struct delivered a = hear(LENT(node), stream_of(k) * 4, 8, fixed, 8, out, sizeof out);
 
     BACK(node, a);
-    a = hear(LENT(node), stream_of(k) * 4 + 1, 0, fixed, 0, out, sizeof out);
+    return node;
+}
+
+/* The node once it heard a confirmation of stream k. */
+static struct node confirmed(struct node node, uint32_t k)
+{
+    uint8_t out[16];
+    struct delivered a = hear(LENT(node), stream_of(k) * 4 + 1, 0, fixed, 0, out, sizeof out);
+
     BACK(node, a);
     return node;
 }
 
-/* A confirmed message on so many of every four streams; where `apart` is true, a tick follows each. */
-static struct node held(uint32_t of_four, bool apart, uint32_t ticks)
+/* The node once it was asked for a message of stream k. */
+static struct node requested(struct node node, uint32_t k)
 {
-    struct node node = streams(RECEIVED);
+    struct answered a = request(LENT(node), stream_of(k), fixed, 8);
+
+    BACK(node, a);
+    return node;
+}
+
+/* What is done to a stream: data is heard, data and a confirmation are, or a message is asked for. */
+enum done { HEARD, CONFIRMED, REQUESTED };
+
+static struct node after(struct node node, enum done done, uint32_t k)
+{
+    switch (done) {
+    case HEARD:
+        return heard(node, k);
+    case CONFIRMED:
+        return confirmed(heard(node, k), k);
+    default:
+        return requested(node, k);
+    }
+}
+
+/* This is done to so many of every four streams, and so many ticks follow; where `apart` is true, one follows each. */
+static struct node held(enum streams which, enum done done, uint32_t of_four, bool apart, uint32_t ticks)
+{
+    struct node node = streams(which);
 
     for (uint32_t k = 0; k < 32; k++) {
         if (k % 4 < of_four) {
-            node = heard(node, k);
+            node = after(node, done, k);
         }
         if (apart) {
             node = ticked(node);
@@ -180,16 +237,22 @@ static struct node held(uint32_t of_four, bool apart, uint32_t ticks)
     return node;
 }
 
-static struct node requested(uint32_t k)
-{
-    struct node node = streams(SENT);
-    struct answered a = request(LENT(node), stream_of(k), fixed, 8);
-
-    BACK(node, a);
-    return node;
-}
-
-enum { HEAR, TICK_IDLE, TICK_ONE, TICK_MANY, REQUEST, NEXT_ONE, NEXT_NONE, SET_UP, MIXED_CALLS, WORKS };
+enum {
+    HEAR,
+    HEAR_LAST,
+    HEAR_ABSENT,
+    TICK_IDLE,
+    TICK_ONE,
+    TICK_MANY,
+    TICK_DROPPED,
+    REQUEST,
+    NEXT_ONE,
+    NEXT_MANY,
+    NEXT_NONE,
+    SET_UP,
+    MIXED_CALLS,
+    WORKS
+};
 
 /* The period is after how many rounds the workload starts from its first node again. */
 static const struct work {
@@ -198,11 +261,15 @@ static const struct work {
     uint64_t period;
 } works[WORKS] = {
     [HEAR] = {"hear", CALL_HEAR, 256},
+    [HEAR_LAST] = {"hear-last", CALL_HEAR, 2},
+    [HEAR_ABSENT] = {"hear-absent", CALL_HEAR, 256},
     [TICK_IDLE] = {"tick-idle", CALL_TICK, 64},
     [TICK_ONE] = {"tick-one", CALL_TICK, 32},
     [TICK_MANY] = {"tick-many", CALL_TICK, 1},
+    [TICK_DROPPED] = {"tick-dropped", CALL_TICK, 1},
     [REQUEST] = {"request", CALL_REQUEST, 32},
     [NEXT_ONE] = {"next-one", CALL_NEXT_FRAME, 1},
+    [NEXT_MANY] = {"next-many", CALL_NEXT_FRAME, 1},
     [NEXT_NONE] = {"next-none", CALL_NEXT_FRAME, 256},
     [SET_UP] = {"set-up", CALL_SET_UP, 40},
     [MIXED_CALLS] = {"mixed", ANY_CALL, 65536},
@@ -212,16 +279,23 @@ static struct node start_of(size_t work)
 {
     switch (work) {
     case HEAR:
+    case HEAR_ABSENT:
     case MIXED_CALLS:
         return streams(MIXED);
+    case HEAR_LAST:
+        return streams(HIGHEST_LAST);
     case TICK_IDLE:
-        return held(2, false, 0);
+        return held(RECEIVED, CONFIRMED, 2, false, 0);
     case TICK_ONE:
-        return held(4, true, 68);
+        return held(RECEIVED, CONFIRMED, 4, true, 68);
     case TICK_MANY:
-        return held(4, false, 100);
+        return held(RECEIVED, CONFIRMED, 4, false, 100);
+    case TICK_DROPPED:
+        return held(TWO_RECEIVED, HEARD, 4, false, 80);
     case NEXT_ONE:
-        return requested(19);
+        return requested(streams(SENT), 19);
+    case NEXT_MANY:
+        return held(TWO_SENT, REQUESTED, 4, false, 0);
     case SET_UP:
         return (struct node){0};
     default:
@@ -244,11 +318,23 @@ static enum call any_call(uint32_t x)
     return x == 14 ? CALL_REQUEST : CALL_SET_UP;
 }
 
-static struct asked asked_of(enum call call, uint64_t i, uint32_t random)
+static struct asked frame_of(size_t work, uint32_t random)
+{
+    switch (work) {
+    case HEAR_LAST:
+        return data(stream_of(HIGHEST), random);
+    case HEAR_ABSENT:
+        return data(stream_of(random / 65536 % 32) + 1, random);
+    default:
+        return frame(random);
+    }
+}
+
+static struct asked asked_of(size_t work, enum call call, uint64_t i, uint32_t random)
 {
     switch (call) {
     case CALL_HEAR:
-        return frame(random);
+        return frame_of(work, random);
     case CALL_REQUEST:
         return message(random);
     case CALL_SET_UP:
@@ -300,7 +386,7 @@ static uint32_t run(size_t work, uint64_t rounds, uint64_t calls)
         if (call == ANY_CALL) {
             call = any_call(random / 4096 % 16);
         }
-        asked = asked_of(call, i, random);
+        asked = asked_of(work, call, i, random);
         memcpy(payload, fixed, sizeof payload);
         payload[0] = asked.first;
         if (i < calls) {

@@ -26,6 +26,11 @@ pub(crate) fn stream_of(k: u32) -> u32
     (k % 64 * 13 + 7) % 64 * 4099 + 5
 }
 
+// Of the streams 57 to 88 the last has the highest number of all.
+pub(crate) const BELOW_HIGHEST: u32 = 57;
+
+const HIGHEST: u32 = 88;
+
 // The settings of a stream of this role and class.
 pub(crate) fn settings_of(role: u8, class: u32) -> Settings {
     match class {
@@ -101,6 +106,30 @@ pub(crate) fn frame(random: u32) -> Asked {
         room: if kind == 0 { Node::HEAR_ROOM - 1 } else { ROOM },
         settings: settings_of(0, 0),
     }
+}
+
+// Data with eight bytes; half with another first byte.
+fn data(stream: u32, random: u32) -> Asked
+    requires { ⌜ stream ≤ 258243 ⌝ }
+{
+    Asked {
+        number: stream * 4,
+        dlc: 8,
+        len: 8,
+        first: (random / 65536 % 2) as u8,
+        room: ROOM,
+        settings: settings_of(0, 0),
+    }
+}
+
+// Data of the stream with the highest number.
+pub(crate) fn data_of_highest(random: u32) -> Asked {
+    data(stream_of(HIGHEST), random)
+}
+
+// Data of an unknown stream.
+pub(crate) fn data_of_absent(random: u32) -> Asked {
+    data(stream_of(random / 65536 % 32) + 1, random)
 }
 
 // A request: one in eight each of an unknown stream and with nine bytes.

@@ -5,6 +5,7 @@ use crate::asking;
 use crate::asking::Asked;
 use crate::checksum;
 use crate::starting;
+use crate::starting::Done;
 use crate::starting::Streams;
 use node::Node;
 use text::least;
@@ -15,11 +16,15 @@ ghost use Prim.Native.Nat.{_≤_};
 
 pub enum Work {
     Hear,
+    HearLast,
+    HearAbsent,
     TickIdle,
     TickOne,
     TickMany,
+    TickDropped,
     Request,
     NextOne,
+    NextMany,
     NextNone,
     SetUp,
     Mixed,
@@ -42,6 +47,12 @@ pub(crate) fn work_named(word: &[u8]) -> Named {
     if words::is(word, b"hear") {
         return Named::Is(Work::Hear);
     }
+    if words::is(word, b"hear-last") {
+        return Named::Is(Work::HearLast);
+    }
+    if words::is(word, b"hear-absent") {
+        return Named::Is(Work::HearAbsent);
+    }
     if words::is(word, b"tick-idle") {
         return Named::Is(Work::TickIdle);
     }
@@ -51,11 +62,17 @@ pub(crate) fn work_named(word: &[u8]) -> Named {
     if words::is(word, b"tick-many") {
         return Named::Is(Work::TickMany);
     }
+    if words::is(word, b"tick-dropped") {
+        return Named::Is(Work::TickDropped);
+    }
     if words::is(word, b"request") {
         return Named::Is(Work::Request);
     }
     if words::is(word, b"next-one") {
         return Named::Is(Work::NextOne);
+    }
+    if words::is(word, b"next-many") {
+        return Named::Is(Work::NextMany);
     }
     if words::is(word, b"next-none") {
         return Named::Is(Work::NextNone);
@@ -72,11 +89,15 @@ pub(crate) fn work_named(word: &[u8]) -> Named {
 fn call_of(work: Work, random: u32) -> Call {
     match work {
         Work::Hear => Call::Hear,
+        Work::HearLast => Call::Hear,
+        Work::HearAbsent => Call::Hear,
         Work::TickIdle => Call::Tick,
         Work::TickOne => Call::Tick,
         Work::TickMany => Call::Tick,
+        Work::TickDropped => Call::Tick,
         Work::Request => Call::Request,
         Work::NextOne => Call::NextFrame,
+        Work::NextMany => Call::NextFrame,
         Work::NextNone => Call::NextFrame,
         Work::SetUp => Call::SetUp,
         Work::Mixed => any_call(random / 4096 % 16),
@@ -100,11 +121,15 @@ fn period_of(work: Work) -> u64
 {
     match work {
         Work::Hear => 256,
+        Work::HearLast => 2,
+        Work::HearAbsent => 256,
         Work::TickIdle => 64,
         Work::TickOne => 32,
         Work::TickMany => 1,
+        Work::TickDropped => 1,
         Work::Request => 32,
         Work::NextOne => 1,
+        Work::NextMany => 1,
         Work::NextNone => 256,
         Work::SetUp => 40,
         Work::Mixed => 65536,
@@ -114,28 +139,72 @@ fn period_of(work: Work) -> u64
 fn start_of(work: Work) -> Node {
     match work {
         Work::Hear => starting::set_up(Streams::Mixed),
-        Work::TickIdle => starting::held(starting::set_up(Streams::Received), 2, false),
+        Work::HearLast => starting::set_up(Streams::HighestLast),
+        Work::HearAbsent => starting::set_up(Streams::Mixed),
+        Work::TickIdle => starting::held(
+            starting::set_up(Streams::Received),
+            Done::Confirmed,
+            2,
+            false,
+        ),
         // Every tick from here on has one message due, and after 32 ticks none is left.
         Work::TickOne => starting::later(
-            starting::held(starting::set_up(Streams::Received), 4, true),
+            starting::held(
+                starting::set_up(Streams::Received),
+                Done::Confirmed,
+                4,
+                true,
+            ),
             68,
         ),
         // The next tick has 32 messages due.
         Work::TickMany => starting::later(
-            starting::held(starting::set_up(Streams::Received), 4, false),
+            starting::held(
+                starting::set_up(Streams::Received),
+                Done::Confirmed,
+                4,
+                false,
+            ),
             100,
+        ),
+        // The next tick has 32 messages late.
+        Work::TickDropped => starting::later(
+            starting::held(
+                starting::set_up(Streams::TwoReceived),
+                Done::Heard,
+                4,
+                false,
+            ),
+            80,
         ),
         Work::Request => starting::set_up(Streams::Sent),
         Work::NextOne => starting::requested(starting::set_up(Streams::Sent), 19),
+        // Data and a confirmation of 32 streams.
+        Work::NextMany => starting::held(
+            starting::set_up(Streams::TwoSent),
+            Done::Requested,
+            4,
+            false,
+        ),
         Work::NextNone => starting::set_up(Streams::Sent),
         Work::SetUp => Node::fresh(),
         Work::Mixed => starting::set_up(Streams::Mixed),
     }
 }
 
-fn asked_of(call: Call, i: u64, random: u32) -> Asked {
+fn frame_of(work: Work, random: u32) -> Asked {
+    if let Work::HearLast = work {
+        return asking::data_of_highest(random);
+    }
+    if let Work::HearAbsent = work {
+        return asking::data_of_absent(random);
+    }
+    asking::frame(random)
+}
+
+fn asked_of(work: Work, call: Call, i: u64, random: u32) -> Asked {
     match call {
-        Call::Hear => asking::frame(random),
+        Call::Hear => frame_of(work, random),
         Call::Tick => asking::nothing(),
         Call::Request => asking::message(random),
         Call::NextFrame => asking::nothing(),
@@ -157,7 +226,7 @@ pub(crate) fn run(work: Work, rounds: u64, calls: u64) -> u32 {
         }
         random = checksum::next(random);
         let call = call_of(work, random);
-        let asked = asked_of(call, i, random);
+        let asked = asked_of(work, call, i, random);
         let mut out = [0u8; Node::TICK_ROOM];
         let payload = asking::payload_of(asked.first);
         let len = least(asked.len, asking::LARGEST);

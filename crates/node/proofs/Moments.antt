@@ -4,7 +4,7 @@ use native.Mathlib.Omega.{arith}
 use mathlib.Core.Path.{_≡_, refl, sym, ap, _∙_}
 use mathlib.Core.List.{List, [], _∷_, _++_, map}
 use lib.ListN.{replicate}
-use Rattle.wire.specs.Identifiers.{split}
+use Rattle.wire.specs.Identifiers.{join, split}
 use Rattle.wire.specs.Classes.{carries}
 use Rattle.wire.specs.Delivered.{recordOf}
 use Rattle.wire.specs.Frames.{badFrame}
@@ -17,7 +17,7 @@ use Rattle.node.specs.SetUp.{lessFree, inPlace, setUp}
 use Rattle.node.specs.Hear.{hear, heardBy, deliveredAtOnce}
 use Rattle.node.specs.Tick.{tick, late, due, holdOver, lapsed, dueSlots, recordsFrom}
 use Rattle.node.specs.Request.{request, requested}
-use Rattle.node.specs.NextFrame.{nextFrame, pendingIn, lowest, give, givenOut, payloadFor}
+use Rattle.node.specs.NextFrame.{nextFrame, give, givenOut, payloadFor}
 use Rattle.node.specs.Calls.{Call, outcome, afterFrom, after, roll, rollOutcome}
 use Rattle.node.specs.Moments.{five, receive, send, settings, ticks, Start, from-fresh, receiving, sending, Trial, call, splits, Shown, callsTo, shownBy}
 use Rattle.node.specs.Moments.{shows, Row, moments, MomentsHold}
@@ -75,7 +75,7 @@ each-same f g same (r ∷ rows) = rw (same (r .trial), each-same f g same rows)
 
 computed : map (λ (r : Row). shortly (r .trial)) moments ≡ map (λ (r : Row). r .shown) moments
 unfolding moments setUp lessFree inPlace hear heardBy deliveredAtOnce tick late due holdOver lapsed dueSlots recordsFrom request requested
-    nextFrame pendingIn lowest give givenOut payloadFor split carries recordOf badFrame legal sameBytes first onFirst some
+    nextFrame join give givenOut payloadFor split carries recordOf badFrame legal sameBytes first onFirst some
 computed = refl
 
 -- the definitions, with the counter rolling over, show what the table says

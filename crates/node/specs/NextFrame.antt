@@ -1,53 +1,23 @@
--- The next frame: of the pending frames of the first slot that has any, the one with the lowest bus identifier; in every node that calls
--- make, it is the lowest of all. The replies ShortOutput, Nothing, in this order.
-use Prim.Native.Nat.{ℕ, _+_, _*_, min}
-use mathlib.Core.Bool.{Bool, true, false, cond, not, _&&_, _||_}
-use mathlib.Core.List.{List, [], _∷_, _++_}
+-- The next frame: of the pending frames of the first slot that has any, the one with the lowest code; in every node that calls make, it is
+-- that with the lowest bus identifier of all. The replies ShortOutput, Nothing, in this order.
+use Prim.Native.Nat.{ℕ}
+use mathlib.Core.Bool.{Bool, cond, not, _&&_, _||_}
+use mathlib.Core.List.{List, [], _∷_}
 use lib.ListN.{length}
 use lib.Dec.{eqb, leb, ltb}
-use Rattle.wire.specs.declared.ids.BusId.{BusId}
 use Rattle.wire.specs.declared.reply.Reply.the-variants.{Done, ShortOutput, Nothing}
-use Rattle.wire.specs.Identifiers.{maxStream, codeOf}
+use Rattle.wire.specs.Identifiers.{maxStream, join}
 use Rattle.wire.specs.Settings.{isPlain}
 use Rattle.node.specs.declared.slots.Pending.{Pending}
 use Rattle.node.specs.declared.slots.Slot.{Slot}
 use Rattle.node.specs.declared.Node.{Node}
 use Rattle.node.specs.Slots.{payloadOf, payloadGiven, confirmationGiven, abortGiven, withParts, first, onFirst, some}
 use Rattle.node.specs.Nodes.{withSlots, Outcome, Refusals, unlessRefused}
+use Rattle.node.specs.Request.{hasPending}
 
 -- the longest payload must fit
 abbrev pub nextRoom : ℕ
 nextRoom = 8
-
--- the code of the frame with the payload
-abbrev pub payloadCode : Slot → ℕ
-payloadCode x = cond (isPlain (x .settings)) 3 0
-
-abbrev pub one : Bool → ℕ → List ℕ
-one true i = i ∷ []
-one false i = []
-
--- the codes of a slot's pending frames
-abbrev pub pendingCodes : Slot → List ℕ
-pendingCodes x = one (x .pending .payload) (payloadCode x) ++ one (x .pending .confirmation) 1 ++ one (x .pending .abort) 2
-
--- as bus identifiers of the slot's stream. (A number that is no stream has none: such a slot is in no node that calls make.)
-abbrev pub idsFrom : (stream : ℕ) → (codes : List ℕ) → List ℕ
-idsFrom stream [] = []
-idsFrom stream (code ∷ codes) = (stream * 4 + code) ∷ idsFrom stream codes
-
-unfoldable pub pendingIn : Slot → List ℕ
-pendingIn x = cond (x .used && leb (x .stream .0) maxStream) (idsFrom (x .stream .0) (pendingCodes x)) []
-
--- there are none
-abbrev pub isNone : List ℕ → Bool
-isNone [] = true
-isNone (i ∷ is) = false
-
--- the lowest of some identifiers (of none there is none, and next frame answers Nothing)
-unfoldable pub lowest : List ℕ → ℕ
-lowest [] = 0
-lowest (i ∷ is) = cond (isNone is) i (min i (lowest is))
 
 -- the frame with this code is pending no longer
 abbrev pub without : (code : ℕ) → Pending → Pending
@@ -61,16 +31,18 @@ givenOut code x = withParts x (x .message) (without code (x .pending))
 unfoldable pub payloadFor : (code : ℕ) → Slot → List ℕ
 payloadFor code x = cond (eqb code 1 || eqb code 2) [] (payloadOf (x .message))
 
--- a frame of the slot is pending
+-- a frame of the slot is pending. (A number that is no stream has none: such a slot is in no node that calls make.)
 abbrev pub hasFrame : Slot → Bool
-hasFrame x = not (isNone (pendingIn x))
+hasFrame x = hasPending (x .pending) && (x .used && leb (x .stream .0) maxStream)
 
--- the one that it gives out first
-abbrev pub lowestFrame : Slot → BusId
-lowestFrame x = record { 0 = lowest (pendingIn x) }
+-- the lowest code of those that are pending: data, confirmation, abort, plain
+abbrev pub lowestCode : Slot → ℕ
+lowestCode x =
+    cond (x .pending .payload && not (isPlain (x .settings))) 0
+    (cond (x .pending .confirmation) 1 (cond (x .pending .abort) 2 3))
 
 abbrev pub lowestGiven : Slot → Slot
-lowestGiven x = givenOut (codeOf (lowestFrame x)) x
+lowestGiven x = givenOut (lowestCode x) x
 
 -- the first slot with a frame pending gives it out
 unfoldable pub give : Node → Outcome
@@ -79,8 +51,8 @@ give n =
     record {
       node = withSlots (onFirst hasFrame lowestGiven (n .slots)) n;
       reply = Done;
-      id = lowestFrame x;
-      bytes = payloadFor (codeOf (lowestFrame x)) x;
+      id = join (x .stream) (lowestCode x) .id;
+      bytes = payloadFor (lowestCode x) x;
     }
 
 abbrev pub nextRefusals : (output : List ℕ) → Node → Refusals

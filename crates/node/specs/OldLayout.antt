@@ -1,15 +1,16 @@
 -- The old layout: the slots are kept in the order of set up, a tick looks for the due slots by ascending stream, and next frame for the lowest
 -- identifier of all slots. A slot, and whatever happens to one, is the same in both layouts.
-use Prim.Native.Nat.{ℕ}
-use mathlib.Core.Bool.{cond}
+use Prim.Native.Nat.{ℕ, _+_, _*_, min}
+use mathlib.Core.Bool.{Bool, true, false, cond, _&&_}
 use mathlib.Core.List.{List, [], _∷_, _++_}
 use lib.ListN.{length}
-use lib.Dec.{eqb, ltb}
+use lib.Dec.{eqb, leb, ltb}
 use Rattle.wire.specs.declared.ids.Stream.{Stream}
 use Rattle.wire.specs.declared.ids.BusId.{BusId}
 use Rattle.wire.specs.declared.settings.Settings.{Settings}
 use Rattle.wire.specs.declared.reply.Reply.the-variants.{Done, ShortOutput, Nothing}
-use Rattle.wire.specs.Identifiers.{streamOf, codeOf}
+use Rattle.wire.specs.Identifiers.{maxStream, streamOf, codeOf}
+use Rattle.wire.specs.Settings.{isPlain}
 use Rattle.node.specs.declared.slots.Slot.{Slot}
 use Rattle.node.specs.declared.Node.{Node}
 use Rattle.node.specs.Slots.{slotFor, isFree, onFirst}
@@ -19,7 +20,7 @@ use Rattle.node.specs.SetUp.{setUpRefusals}
 use Rattle.node.specs.Hear
 use Rattle.node.specs.Tick.{due, ageOf, recordsFrom, ticked, tickRefusals}
 use Rattle.node.specs.Request
-use Rattle.node.specs.NextFrame.{nextRoom, pendingIn, isNone, lowest, givenOut, payloadFor}
+use Rattle.node.specs.NextFrame.{nextRoom, givenOut, payloadFor}
 use Rattle.node.specs.Calls.{Call}
 
 -- ── where set up puts a slot ──
@@ -54,7 +55,37 @@ tickByStream clock output n =
     (done (ticked clock n) (recordsFrom (dueByStream clock (clock .next (n .counter)) (n .slots))))
 
 -- ── which frame is next ──
--- all pending frames, by their bus identifiers
+-- the code of the frame with the payload
+abbrev pub payloadCode : Slot → ℕ
+payloadCode x = cond (isPlain (x .settings)) 3 0
+
+abbrev pub one : Bool → ℕ → List ℕ
+one true i = i ∷ []
+one false i = []
+
+-- the codes of a slot's pending frames
+abbrev pub pendingCodes : Slot → List ℕ
+pendingCodes x = one (x .pending .payload) (payloadCode x) ++ one (x .pending .confirmation) 1 ++ one (x .pending .abort) 2
+
+-- as bus identifiers of its stream
+abbrev pub idsFrom : (stream : ℕ) → (codes : List ℕ) → List ℕ
+idsFrom stream [] = []
+idsFrom stream (code ∷ codes) = (stream * 4 + code) ∷ idsFrom stream codes
+
+unfoldable pub pendingIn : Slot → List ℕ
+pendingIn x = cond (x .used && leb (x .stream .0) maxStream) (idsFrom (x .stream .0) (pendingCodes x)) []
+
+-- there are none
+abbrev pub isNone : List ℕ → Bool
+isNone [] = true
+isNone (i ∷ is) = false
+
+-- the lowest of some (of none there is none, and the answer is Nothing)
+unfoldable pub lowest : List ℕ → ℕ
+lowest [] = 0
+lowest (i ∷ is) = cond (isNone is) i (min i (lowest is))
+
+-- all pending frames
 unfoldable pub pendingIds : List Slot → List ℕ
 pendingIds [] = []
 pendingIds (x ∷ xs) = pendingIn x ++ pendingIds xs

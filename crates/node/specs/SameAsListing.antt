@@ -16,7 +16,8 @@ use Rattle.node.specs.Slots.{payloadOf}
 use Rattle.node.specs.Hear.{clashes, heardBy}
 use Rattle.node.specs.Tick.{due, lapsed}
 use Rattle.node.specs.Request.{requested}
-use Rattle.node.specs.NextFrame.{pendingCodes, payloadFor, givenOut}
+use Rattle.node.specs.NextFrame.{payloadFor, givenOut}
+use Rattle.node.specs.OldLayout.{pendingCodes}
 use Rattle.node.specs.Listing.{Frame, State, Intervals, Received, ReceivedSet, receive, deliverOrAbort, atomicMulticast}
 
 -- ── how a slot stands for the set of received messages ──

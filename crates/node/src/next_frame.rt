@@ -15,7 +15,7 @@ ghost use Rattle.wire.specs.Frames.{maxPayload};
 ghost use Rattle.wire.specs.Delivered.{over, fitting};
 ghost use Rattle.node.specs.Slots.{payloadOf};
 ghost use Rattle.node.specs.Nodes.{asGiven};
-ghost use Rattle.node.specs.NextFrame.{pendingCodes, lowest, hasFrame, givenOut, payloadFor, nextFrame};
+ghost use Rattle.node.specs.NextFrame.{lowestCode, hasFrame, givenOut, payloadFor, nextFrame};
 ghost use Rattle.node.specs.Clock.{rolled, unbounded};
 ghost use Rattle.node.specs.Calls.{Call, after, rollOutcome};
 
@@ -31,9 +31,9 @@ impl Slot {
         self.used & (self.stream.0 <= Stream::MAX)
     }
 
-    // The lowest code of the slot's pending frames; 0, where it has none.
+    // The lowest code of the slot's pending frames; 3, where it has none.
     pub fn lowest_code(self) -> u32
-        ensures { λ r. ⌜ r ≡ lowest (pendingCodes self) ⌝ }
+        ensures { λ r. ⌜ r ≡ lowestCode self ⌝ }
     {
         let p = self.pending;
         let plain = self.settings.class == Settings::PLAIN;
@@ -46,10 +46,7 @@ impl Slot {
         if p.abort {
             return 2;
         }
-        if p.payload {
-            return 3;
-        }
-        0
+        3
     }
 
     // The slot once its frame with this code is given out.

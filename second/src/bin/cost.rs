@@ -11,6 +11,8 @@ use second::settings::Asked as Settings;
 #[derive(Clone, Copy)]
 enum Call {
     Hear,
+    HearLast,
+    HearAbsent,
     Tick,
     Request,
     NextFrame,
@@ -23,6 +25,17 @@ enum Streams {
     Mixed,
     Received,
     Sent,
+    TwoReceived,
+    TwoSent,
+    HighestLast,
+}
+
+/// What is done to a stream.
+#[derive(Clone, Copy)]
+enum Done {
+    Heard,
+    Confirmed,
+    Requested,
 }
 
 /// What a round asks of the node.
@@ -51,6 +64,10 @@ fn mixed(sum: u32, x: u32) -> u32 {
 fn stream(k: u32) -> u32 {
     (k % 64 * 13 + 7) % 64 * 4_099 + 5
 }
+
+/// Of the streams 57 to 88 the last has the highest number of all.
+const BELOW_HIGHEST: u32 = 57;
+const HIGHEST: u32 = 88;
 
 const fn settings(stream: u32, role: u8, class: u8) -> Settings {
     let (data_reach, confirm_delay, abort_reach, deliver_delay) = match class {
@@ -99,6 +116,11 @@ fn frame(random: u32) -> Asked {
     }
 }
 
+/// Data with eight bytes; half with another first byte.
+fn data(stream: u32, random: u32) -> Asked {
+    Asked { number: stream * 4, dlc: 8, len: 8, first: (random / 65_536 % 2) as u8, ..NOTHING }
+}
+
 fn message(random: u32) -> Asked {
     let h = random / 65_536;
     let (k, kind) = (h % 32, h / 32 % 8);
@@ -115,25 +137,36 @@ fn asked_stream(i: u64, random: u32) -> Asked {
 
 fn with(streams: Streams) -> Node {
     let mut node = Node::fresh();
+    let first = if matches!(streams, Streams::HighestLast) { BELOW_HIGHEST } else { 0 };
     for k in 0..32 {
         let class = (k % 3) as u8;
-        node.set_up(match streams {
-            Streams::Mixed => settings(stream(k), role(k), class),
-            Streams::Received => settings(stream(k), 0, 1 + (k % 2) as u8),
-            Streams::Sent => settings(stream(k), 1, class),
-        });
+        let (role, class) = match streams {
+            Streams::Mixed => (role(k), class),
+            Streams::Received => (0, 1 + (k % 2) as u8),
+            Streams::Sent => (1, class),
+            Streams::TwoReceived => (0, 2),
+            Streams::TwoSent => (1, 2),
+            Streams::HighestLast => (0, 1),
+        };
+        node.set_up(settings(stream(first + k), role, class));
     }
     node
 }
 
-/// A confirmed message on so many of every four streams; where `apart` is true, a tick follows each.
-fn held(of_four: u32, apart: bool, ticks: u32) -> Node {
-    let mut node = with(Streams::Received);
+/// This is done to so many of every four streams, and so many ticks follow; where `apart` is true, one follows each.
+fn held(streams: Streams, done: Done, of_four: u32, apart: bool, ticks: u32) -> Node {
+    let mut node = with(streams);
     let mut output = [0; TICK_OUTPUT];
     for k in 0..32 {
         if k % 4 < of_four {
-            node.hear(stream(k) * 4, 8, &PAYLOAD[..8], &mut output);
-            node.hear(stream(k) * 4 + 1, 0, &[], &mut output);
+            if let Done::Requested = done {
+                node.request(stream(k), &PAYLOAD[..8]);
+            } else {
+                node.hear(stream(k) * 4, 8, &PAYLOAD[..8], &mut output);
+            }
+            if let Done::Confirmed = done {
+                node.hear(stream(k) * 4 + 1, 0, &[], &mut output);
+            }
         }
         if apart {
             node.tick(&mut output);
@@ -155,11 +188,15 @@ fn requested(k: u32) -> Node {
 fn named(name: &str) -> Option<(Call, Node, u64)> {
     Some(match name {
         "hear" => (Call::Hear, with(Streams::Mixed), 256),
-        "tick-idle" => (Call::Tick, held(2, false, 0), 64),
-        "tick-one" => (Call::Tick, held(4, true, 68), 32),
-        "tick-many" => (Call::Tick, held(4, false, 100), 1),
+        "hear-last" => (Call::HearLast, with(Streams::HighestLast), 2),
+        "hear-absent" => (Call::HearAbsent, with(Streams::Mixed), 256),
+        "tick-idle" => (Call::Tick, held(Streams::Received, Done::Confirmed, 2, false, 0), 64),
+        "tick-one" => (Call::Tick, held(Streams::Received, Done::Confirmed, 4, true, 68), 32),
+        "tick-many" => (Call::Tick, held(Streams::Received, Done::Confirmed, 4, false, 100), 1),
+        "tick-dropped" => (Call::Tick, held(Streams::TwoReceived, Done::Heard, 4, false, 80), 1),
         "request" => (Call::Request, with(Streams::Sent), 32),
         "next-one" => (Call::NextFrame, requested(19), 1),
+        "next-many" => (Call::NextFrame, held(Streams::TwoSent, Done::Requested, 4, false, 0), 1),
         "next-none" => (Call::NextFrame, with(Streams::Sent), 256),
         "set-up" => (Call::SetUp, Node::fresh(), 40),
         "mixed" => (Call::Any, with(Streams::Mixed), 65_536),
@@ -192,6 +229,8 @@ fn run(work: Call, start: &Node, period: u64, rounds: u64, calls: u64) -> u32 {
         };
         let asked = match call {
             Call::Hear => frame(random),
+            Call::HearLast => data(stream(HIGHEST), random),
+            Call::HearAbsent => data(stream(random / 65_536 % 32) + 1, random),
             Call::Request => message(random),
             Call::SetUp => asked_stream(i, random),
             Call::Tick | Call::NextFrame | Call::Any => NOTHING,
@@ -204,7 +243,7 @@ fn run(work: Call, start: &Node, period: u64, rounds: u64, calls: u64) -> u32 {
         let (mut reply, mut id, mut count) = (Reply::Done, 0, 0);
         if i < calls {
             match call {
-                Call::Hear => {
+                Call::Hear | Call::HearLast | Call::HearAbsent => {
                     let heard = node.hear(asked.number, asked.dlc, payload, lent);
                     (reply, count) = (heard.reply, heard.written);
                 }

@@ -5,7 +5,6 @@ use mathlib.Core.Bool.{Bool, true, false, cond, and-eq-true-iff}
 use mathlib.Core.List.{List, [], _∷_}
 use Rattle.wire.specs.declared.ids.Stream.{Stream}
 use Rattle.wire.specs.declared.settings.Settings.{Settings}
-use Rattle.wire.specs.Identifiers.{codeOf}
 use Rattle.node.specs.declared.slots.Slot.{Slot}
 use Rattle.node.specs.declared.Node.{Node}
 use Rattle.node.specs.Slots.{slotFor, noMessage, released, abortPending, empty, first, isOf, isReceiver, isSender, withParts, withMessage}
@@ -14,7 +13,7 @@ use Rattle.node.specs.Reachable.{All}
 use Rattle.node.specs.Clock.{Clock, unbounded}
 use Rattle.node.specs.SetUp.{setUp}
 use Rattle.node.specs.Request.{request, requested}
-use Rattle.node.specs.NextFrame.{nextFrame, give, givenOut, hasFrame, lowestFrame, lowestGiven}
+use Rattle.node.specs.NextFrame.{nextFrame, give, givenOut, hasFrame, lowestCode, lowestGiven}
 use Rattle.node.specs.Tick.{late, due, holdOver, lapsed, tick, ageOf, tickSlot, dueSlots}
 use Rattle.node.specs.Calls.{afterFrom}
 use Rattle.node.proofs.Choices.{contrary, refuted}
@@ -96,7 +95,7 @@ module _ (n : Node) (k : NoneHeld n) where
   none-next-frame output =
       by-case (λ (o : Outcome). NoneHeld (o .node)) (λ r why. k)
       (λ h. let x = first hasFrame (n .slots) in
-      all-on-first Unheld hasFrame lowestGiven (n .slots) k (λ here u. unheld-given-out (codeOf (lowestFrame x)) x u))
+      all-on-first Unheld hasFrame lowestGiven (n .slots) k (λ here u. unheld-given-out (lowestCode x) x u))
       (next-cases output n .case)
 
   pub none-tick : (clock : Clock) (output : List ℕ) → NoneHeld (tick clock output n .node)

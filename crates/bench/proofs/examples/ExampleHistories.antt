@@ -1,5 +1,6 @@
 -- What the example histories compute with.
 use mathlib.Core.Bool.{Bool, true}
+use Rattle.wire.specs.Identifiers.{join}
 use Rattle.wire.specs.Classes.{carries}
 use Rattle.wire.specs.Frames.{badFrame}
 use Rattle.wire.specs.Settings.{legal}
@@ -21,6 +22,6 @@ unfolding
     hearing.heardBy hearing.deliveredAtOnce hearing.hear
     ticking.late ticking.due ticking.holdOver ticking.lapsed ticking.dueSlots ticking.recordsFrom ticking.tick
     requesting.requested requesting.request
-    giving.pendingIn giving.lowest giving.givenOut giving.payloadFor giving.give giving.nextFrame
+    join giving.givenOut giving.payloadFor giving.give giving.nextFrame
     proper start step may
 computing = true

@@ -15,13 +15,13 @@ use Rattle.node.specs.declared.slots.Slot.{Slot}
 use Rattle.node.specs.declared.Node.{Node}
 use Rattle.wire.specs.Classes.{carries}
 use Rattle.wire.specs.Frames.{badFrame}
-use Rattle.wire.specs.Identifiers.{maxStream, maxBusId, streamOf, codeOf}
+use Rattle.wire.specs.Identifiers.{maxStream, maxBusId, streamOf, codeOf, join}
 use Rattle.wire.specs.Settings.{receives, sends, isPlain}
 use Rattle.node.specs.Calls.{hear, tick, request, nextFrame, outcome}
 use Rattle.node.specs.Clock.{unbounded}
 use Rattle.node.specs.Hear.{clashes, heardBy, deliveredAtOnce}
-use Rattle.node.specs.NextFrame.{one, idsFrom, pendingCodes, pendingIn, payloadCode, hasFrame, lowestFrame, lowestGiven, give, givenOut, payloadFor}
-use Rattle.node.specs.OldLayout.{pendingIds, giveById}
+use Rattle.node.specs.NextFrame.{hasFrame, lowestCode, lowestGiven, give, givenOut, payloadFor}
+use Rattle.node.specs.OldLayout.{one, pendingCodes, payloadCode, idsFrom, pendingIn, pendingIds, giveById}
 use Rattle.node.specs.SlotOrder.{Distinct}
 use Rattle.node.specs.Nodes.{slotOf, onSlot, Outcome}
 use Rattle.node.specs.Reachable.{KeptSlot, All, InOrder, Kept}
@@ -414,7 +414,7 @@ next-other s n =
     (λ h other.
     let x = giver n in
     first-elsewhere lowestGiven lowest-given-keeps hasFrame s (n .slots)
-    (not-of-both s (streamOf (lowestFrame x)) other x (so (giver-of-stream n (h .pending)))))
+    (not-of-both s (streamOf (join (x .stream) (lowestCode x) .id)) other x (so (giver-of-stream n (h .pending)))))
     (next-cases lent n .case)
 
 pub next-counter : (n : Node) → giving n .node .counter ≡ n .counter

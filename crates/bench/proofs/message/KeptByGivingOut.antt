@@ -13,7 +13,8 @@ use Rattle.node.specs.declared.slots.Pending.{Pending}
 use Rattle.node.specs.declared.Node.{Node}
 use Rattle.wire.specs.Identifiers.{idOf, codeOf, streamOf}
 use Rattle.wire.specs.Settings.{isPlain, receives}
-use Rattle.node.specs.NextFrame.{payloadCode, without, givenOut, payloadFor}
+use Rattle.node.specs.NextFrame.{without, givenOut, payloadFor}
+use Rattle.node.specs.OldLayout.{payloadCode}
 use Rattle.node.specs.Nodes.{slotOf}
 use Rattle.node.specs.Reachable.{KeptSlot}
 use Rattle.node.specs.Slots.{isReceiver, payloadOf}

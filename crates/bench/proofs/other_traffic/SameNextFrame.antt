@@ -18,8 +18,8 @@ use Rattle.node.specs.declared.Node.{Node}
 use Rattle.node.specs.Slots.{isOf, first}
 use Rattle.node.specs.Nodes.{slotOf}
 use Rattle.node.specs.Reachable.{Kept}
-use Rattle.node.specs.NextFrame.{one, idsFrom, payloadCode, pendingCodes, pendingIn, payloadFor}
-use Rattle.node.specs.OldLayout.{pendingIds, giveById}
+use Rattle.node.specs.NextFrame.{payloadFor}
+use Rattle.node.specs.OldLayout.{one, payloadCode, pendingCodes, idsFrom, pendingIn, pendingIds, giveById}
 use Rattle.node.proofs.slot_order.LowestOfAll.{lowestOrAbove, lowest-append}
 use Rattle.node.proofs.slot_order.NextFrameInOrder.{next-by-id-cases}
 use Rattle.one_stream.proofs.Truth.{cond-elim, and-r, both, is-true, so}

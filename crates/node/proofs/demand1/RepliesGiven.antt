@@ -2,6 +2,7 @@
 use mathlib.Core.Path.{refl}
 use Rattle.wire.specs.Settings.{legal}
 use Rattle.wire.specs.Frames.{badFrame}
+use Rattle.wire.specs.Identifiers.{join}
 use Rattle.wire.specs.Classes.{carries}
 use Rattle.node.specs.Slots.{sameBytes, first, onFirst, some}
 use Rattle.node.specs.Clock.{Clock}
@@ -9,11 +10,11 @@ use Rattle.node.specs.SetUp.{lessFree, inPlace, setUp}
 use Rattle.node.specs.Hear.{heardBy, hear}
 use Rattle.node.specs.Tick.{tick}
 use Rattle.node.specs.Request.{requested, request}
-use Rattle.node.specs.NextFrame.{pendingIn, lowest, give, nextFrame}
+use Rattle.node.specs.NextFrame.{give, nextFrame}
 use Rattle.node.specs.Refused.{RepliesGiven}
 
 pub replies-given : (clock : Clock) → RepliesGiven clock
-unfolding setUp lessFree inPlace hear heardBy tick request requested nextFrame pendingIn lowest give legal badFrame carries sameBytes first onFirst some
+unfolding setUp lessFree inPlace hear heardBy tick request requested nextFrame join give legal badFrame carries sameBytes first onFirst some
 replies-given clock =
     record {
       setUp = λ s settings n. record { given = refl; every = refl };

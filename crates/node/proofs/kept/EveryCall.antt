@@ -1,14 +1,13 @@
 -- What every reached node keeps is kept by every call.
 use Prim.Native.Nat.{ℕ, _+_, _-_}
 use mathlib.Core.Path.{_≡_, refl, _∙_}
-use mathlib.Core.Bool.{Bool, true, false, cond, not, _&&_}
+use mathlib.Core.Bool.{Bool, true, and-eq-true-iff}
 use mathlib.Core.List.{List, [], _∷_}
-use lib.Dec.{leb}
 use lib.ListN.{length, length-map}
 use Rattle.wire.specs.declared.ids.Stream.{Stream}
 use Rattle.wire.specs.declared.ids.BusId.{BusId}
 use Rattle.wire.specs.declared.settings.Settings.{Settings}
-use Rattle.wire.specs.Identifiers.{maxStream, streamOf, codeOf}
+use Rattle.wire.specs.Identifiers.{streamOf, codeOf}
 use Rattle.wire.proofs.Frames.{frame-length}
 use Rattle.node.specs.declared.slots.Slot.{Slot}
 use Rattle.node.specs.declared.Node.{Node}
@@ -18,8 +17,8 @@ use Rattle.node.specs.Clock.{unbounded}
 use Rattle.node.specs.SetUp.{setUp}
 use Rattle.node.specs.Hear.{hear, heardBy}
 use Rattle.node.specs.Tick.{tick, tickSlot}
-use Rattle.node.specs.Request.{request, requested}
-use Rattle.node.specs.NextFrame.{pendingCodes, idsFrom, pendingIn, isNone, hasFrame, lowestFrame, lowestGiven, give, nextFrame}
+use Rattle.node.specs.Request.{hasPending, request, requested}
+use Rattle.node.specs.NextFrame.{hasFrame, lowestCode, lowestGiven, give, nextFrame}
 use Rattle.node.specs.Calls.{Call, outcome, afterFrom, after}
 use Rattle.node.specs.Reachable.{KeptSlot, Kept}
 use Rattle.node.proofs.Cases.{Case, by-case}
@@ -32,15 +31,6 @@ use Rattle.node.proofs.slots.Table.{length-on-first, all-map, all-repli
 use Rattle.node.proofs.slots.Streams.{KeepsKind, heard-keeps, lapsed-keeps, requested-keeps, lowest-given-keeps}
 use Rattle.node.proofs.slots.InOrder.{all-in-place, length-in-place, set-up-in-order, fresh-in-order, map-in-order, on-first-in-order}
 use Rattle.node.proofs.kept.EachSlot.{kept-empty, kept-set-up, kept-heard, kept-lapsed, kept-requested, kept-given-out}
-
--- a frame is pending only in a slot that is set up
-frame-used : (x : Slot) → hasFrame x ≡ true → x .used ≡ true
-unfolding pendingIn
-frame-used x = arm (x .used)
-  where
-    arm : (u : Bool) → not (isNone (cond (u && leb (x .stream .0) maxStream) (idsFrom (x .stream .0) (pendingCodes x)) [])) ≡ true → u ≡ true
-    arm true e = refl
-    arm false e = e
 
 pub kept-fresh : Kept fresh
 kept-fresh = record { slots-32 = refl; in-order = fresh-in-order slotCount; each = all-replicate (KeptSlot 0) slotCount empty (kept-empty 0) }
@@ -101,7 +91,11 @@ module _ (n : Node) (k : Kept n) where
   next-frame-keeps output =
       kept-unless (next-cases output n .case) λ h.
       on-first-keeps hasFrame lowestGiven lowest-given-keeps
-      (λ here kx. let x = first hasFrame (n .slots) in kept-given-out (n .counter) x kx (codeOf (lowestFrame x)) (frame-used x here))
+      (λ here kx. let x = first hasFrame (n .slots) in kept-given-out (n .counter) x kx (lowestCode x) (used x here))
+    where
+      -- a frame is pending only in a slot that is set up
+      used : (x : Slot) → hasFrame x ≡ true → x .used ≡ true
+      used x frame = and-eq-true-iff (x .used) _ .0 (and-eq-true-iff (hasPending (x .pending)) _ .0 frame .1) .0
 
 pub kept-by : (c : Call) (n : Node) → Kept n → Kept (outcome unbounded c n .node)
 kept-by (Call.setUp s settings) n k = set-up-keeps n k s settings

@@ -5,6 +5,7 @@ use mathlib.Core.Bool.{true}
 use mathlib.Core.List.{List, [], _∷_, _++_}
 use lib.ListN.{replicate}
 use Rattle.wire.specs.declared.reply.Reply.the-variants.{Misfit, Clash, Nothing}
+use Rattle.wire.specs.Identifiers.{join}
 use Rattle.wire.specs.Classes.{carries}
 use Rattle.wire.specs.Delivered.{recordOf}
 use Rattle.wire.specs.Frames.{badFrame}
@@ -15,7 +16,7 @@ use Rattle.node.specs.Clock.{rolled}
 use Rattle.node.specs.SetUp.{lessFree, inPlace, setUp}
 use Rattle.node.specs.Hear.{hear, heardBy, deliveredAtOnce, hearRoom}
 use Rattle.node.specs.Tick.{tick, late, due, holdOver, lapsed}
-use Rattle.node.specs.NextFrame.{nextFrame, pendingIn, lowest, give, givenOut}
+use Rattle.node.specs.NextFrame.{nextFrame, give, givenOut}
 use Rattle.node.specs.Calls.{Call, outcome, after}
 use Rattle.node.specs.Listing.{Frame, State, Intervals, ReceivedSet, leaves, timesFrom, timesOf, receive, deliverOrAbort}
 use Rattle.node.specs.Moments.{five, receive as receiver, settings, data₅, confirmation₅, next, ticks}
@@ -68,7 +69,7 @@ listing-aborts-again = (refl, refl)
 -- in the rules paper one frame is pending, and then none
 paper-aborts-once : (outcome rolled next (after rolled (with-five (confirmation₅ ∷ confirmation₅ ∷ []))) .id ≡ record { 0 = 22 })
     × (outcome rolled next (after rolled (with-five (confirmation₅ ∷ confirmation₅ ∷ next ∷ []))) .reply ≡ Nothing)
-unfolding setUp lessFree inPlace hear heardBy nextFrame pendingIn lowest give givenOut carries badFrame legal first onFirst some
+unfolding setUp lessFree inPlace hear heardBy nextFrame join give givenOut carries badFrame legal first onFirst some
 paper-aborts-once = (refl, refl)
 
 -- ── an unreliable message ──

@@ -13,7 +13,8 @@ use Rattle.wire.specs.Identifiers.{maxStream, maxBusId, maxCode, streamOf, code
 use Rattle.wire.specs.Settings.{isPlain}
 use Rattle.node.specs.declared.slots.Slot.{Slot}
 use Rattle.node.specs.Slots.{empty, isOf, first, some}
-use Rattle.node.specs.NextFrame.{payloadCode, one, pendingCodes, idsFrom, pendingIn, isNone, lowest, hasFrame, lowestFrame}
+use Rattle.node.specs.NextFrame.{hasFrame, lowestCode}
+use Rattle.node.specs.OldLayout.{payloadCode, one, pendingCodes, isNone, lowest, idsFrom, pendingIn}
 use Rattle.node.specs.Request.{hasPending}
 use Rattle.node.proofs.Choices.{contrary}
 use Rattle.node.proofs.slots.Table.{some-first}
@@ -62,29 +63,26 @@ some-code code false true abort = refl
 some-code code false false true = refl
 some-code code false false false = refl
 
--- the frames tried by ascending code
-abbrev firstCode : (plain payload confirmation abort : Bool) → ℕ
-firstCode plain payload confirmation abort = cond (payload && not plain) 0 (cond confirmation 1 (cond abort 2 (cond payload 3 0)))
-
-by-flags : (plain payload confirmation abort : Bool)
-    → lowest (one payload (cond plain 3 0) ++ one confirmation 1 ++ one abort 2) ≡ firstCode plain payload confirmation abort
+-- the lowest of them is the code that the slot gives out first
+by-flags : (plain payload confirmation abort : Bool) → (payload || confirmation || abort) ≡ true
+    → lowest (one payload (cond plain 3 0) ++ one confirmation 1 ++ one abort 2)
+    ≡ cond (payload && not plain) 0 (cond confirmation 1 (cond abort 2 3))
 unfolding lowest
-by-flags plain false false false = refl
-by-flags plain false false true = refl
-by-flags plain false true false = refl
-by-flags plain false true true = refl
-by-flags false true false false = refl
-by-flags false true false true = refl
-by-flags false true true false = refl
-by-flags false true true true = refl
-by-flags true true false false = refl
-by-flags true true false true = refl
-by-flags true true true false = refl
-by-flags true true true true = refl
+by-flags plain false false false any = contrary any refl
+by-flags plain false false true any = refl
+by-flags plain false true false any = refl
+by-flags plain false true true any = refl
+by-flags false true false false any = refl
+by-flags false true false true any = refl
+by-flags false true true false any = refl
+by-flags false true true true any = refl
+by-flags true true false false any = refl
+by-flags true true false true any = refl
+by-flags true true true false any = refl
+by-flags true true true true any = refl
 
-pub lowest-code : (x : Slot)
-    → lowest (pendingCodes x) ≡ firstCode (isPlain (x .settings)) (x .pending .payload) (x .pending .confirmation) (x .pending .abort)
-lowest-code x = by-flags (isPlain (x .settings)) (x .pending .payload) (x .pending .confirmation) (x .pending .abort)
+lowest-code : (x : Slot) → hasPending (x .pending) ≡ true → lowest (pendingCodes x) ≡ lowestCode x
+lowest-code x any = by-flags (isPlain (x .settings)) (x .pending .payload) (x .pending .confirmation) (x .pending .abort) any
 
 -- ── of a slot's identifiers ──
 none-from : (stream : ℕ) (codes : List ℕ) → isNone (idsFrom stream codes) ≡ isNone codes
@@ -98,44 +96,44 @@ lowest-ids stream (code ∷ []) some = refl
 lowest-ids stream (code ∷ next ∷ codes) some = let h = lowest-ids stream (next ∷ codes) refl in omega arith
 
 module _ (x : Slot) where
-  -- a frame is pending, of a slot that is set up with a number that is a stream's
-  pub has-frame : hasFrame x ≡ (hasPending (x .pending) && (x .used && leb (x .stream .0) maxStream))
+  -- there is one exactly where the slot has a frame
+  pub has-ids : isNone (pendingIn x) ≡ not (hasFrame x)
   unfolding pendingIn
-  has-frame =
+  has-ids =
       go (hasPending (x .pending)) (x .used && leb (x .stream .0) maxStream)
       (some-code (payloadCode x) (x .pending .payload) (x .pending .confirmation) (x .pending .abort))
     where
       go : (any stream : Bool) → isNone (pendingCodes x) ≡ not any
-          → not (isNone (cond stream (idsFrom (x .stream .0) (pendingCodes x)) [])) ≡ (any && stream)
-      go true true e = rw (none-from (x .stream .0) (pendingCodes x), e)
+          → isNone (cond stream (idsFrom (x .stream .0) (pendingCodes x)) []) ≡ not (any && stream)
+      go true true e = none-from (x .stream .0) (pendingCodes x) ∙ e
       go true false e = refl
-      go false true e = rw (none-from (x .stream .0) (pendingCodes x), e)
+      go false true e = none-from (x .stream .0) (pendingCodes x) ∙ e
       go false false e = refl
 
-  -- and the first that it gives out
+  -- and the lowest is that of the first frame that it gives out
   module _ (frame : hasFrame x ≡ true) where
     both : (hasPending (x .pending) ≡ true) × ((x .used && leb (x .stream .0) maxStream) ≡ true)
-    both = and-eq-true-iff (hasPending (x .pending)) _ .0 (sym has-frame ∙ frame)
+    both = and-eq-true-iff (hasPending (x .pending)) _ .0 frame
 
     some-pending : isNone (pendingCodes x) ≡ false
     some-pending =
         some-code (payloadCode x) (x .pending .payload) (x .pending .confirmation) (x .pending .abort) ∙ ap not (both .0)
 
-    frame-lowest : lowest (pendingIn x) ≡ x .stream .0 * 4 + lowest (pendingCodes x)
+    small : lowestCode x ≤ maxCode
+    small = rw (← (lowest-code x (both .0))) (code-at-most-three x _ (lowest-among (pendingCodes x) some-pending))
+
+    frame-lowest : lowest (pendingIn x) ≡ x .stream .0 * 4 + lowestCode x
     unfolding pendingIn
-    frame-lowest = rw (both .1) (lowest-ids (x .stream .0) (pendingCodes x) some-pending)
+    frame-lowest = rw (both .1, ← (lowest-code x (both .0))) (lowest-ids (x .stream .0) (pendingCodes x) some-pending)
 
-    small : lowest (pendingCodes x) ≤ maxCode
-    small = code-at-most-three x _ (lowest-among (pendingCodes x) some-pending)
-
-    pub frame-code : codeOf (lowestFrame x) ≡ lowest (pendingCodes x)
-    frame-code = omega (arith, frame-lowest, small)
-
-    pub frame-id : lowestFrame x ≡ join (x .stream) (lowest (pendingCodes x)) .id
+    pub frame-id : join (x .stream) (lowestCode x) .id ≡ record { 0 = lowest (pendingIn x) }
     unfolding join
     frame-id =
         let stream = and-eq-true-iff (x .used) _ .0 (both .1) .1 in
-        rw (stream, le-leb (lowest (pendingCodes x)) maxCode small, frame-lowest)
+        rw (stream, le-leb (lowestCode x) maxCode small, frame-lowest)
+
+    pub frame-code : codeOf (record { 0 = lowest (pendingIn x) }) ≡ lowestCode x
+    frame-code = omega (arith, frame-lowest, small)
 
 -- ── of the first slot with a frame ──
 pub none-in-empty : pendingIn empty ≡ []
@@ -143,7 +141,7 @@ unfolding pendingIn
 none-in-empty = refl
 
 pub some-has-frame : (xs : List Slot) → some hasFrame xs ≡ hasFrame (first hasFrame xs)
-some-has-frame = some-first hasFrame (ap (λ (is : List ℕ). not (isNone is)) none-in-empty)
+some-has-frame = some-first hasFrame refl
 
 -- ── where a pending identifier comes from ──
 from-codes : (stream : ℕ) (codes : List ℕ) (i : ℕ) → ((c : ℕ) → List·Memᴰ c codes → c ≤ 3) → List·Memᴰ i (idsFrom stream codes)

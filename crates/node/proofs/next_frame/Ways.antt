@@ -18,13 +18,12 @@ use Rattle.node.specs.declared.Node.{Node}
 use Rattle.node.specs.declared.Given.{Given}
 use Rattle.node.specs.Slots.{first, some}
 use Rattle.node.specs.Nodes.{withSlots, Outcome, refused, asGiven}
-use Rattle.node.specs.NextFrame.{nextRoom, pendingCodes, lowest, hasFrame, lowestGiven, givenOut, payloadFor, give, nextRefusals, nextFrame}
+use Rattle.node.specs.NextFrame.{nextRoom, lowestCode, hasFrame, lowestGiven, givenOut, payloadFor, give, nextRefusals, nextFrame}
 use Rattle.node.specs.Calls.{Call}
 use Rattle.node.proofs.Cases.{Refuses, here, later}
 use Rattle.node.proofs.next_frame.Cases.{next-cases}
 use Rattle.node.proofs.rollover.Promises.{PromisedWritten, promised-written}
 use Rattle.node.proofs.slots.Finding.{indexOf, found, missed}
-use Rattle.node.proofs.next_frame.Lowest.{frame-code, frame-id, some-has-frame}
 
 module _ (output : List ℕ) (n : Node) where
   abbrev Answers : Given → (written : List ℕ) → Type 0
@@ -46,7 +45,7 @@ module _ (output : List ℕ) (n : Node) where
         refused-for (later (le-ltb _ _ room) (here (ap not none)))
 
     -- the slot that the code finds, with what it makes of it
-    module _ (inside : i < length (n .slots)) (d : Slot) (code : ℕ) (lowest-code : code ≡ lowest (pendingCodes (getD (n .slots) i d))) where
+    module _ (inside : i < length (n .slots)) (d : Slot) (code : ℕ) (lowest-code : code ≡ lowestCode (getD (n .slots) i d)) where
       abbrev here-found : Slot
       here-found = getD (n .slots) i d
 
@@ -55,9 +54,6 @@ module _ (output : List ℕ) (n : Node) where
 
       pending : some hasFrame (n .slots) ≡ true
       pending = found hasFrame (n .slots) (omega arith) .there
-
-      has : hasFrame here-found ≡ true
-      has = rw is-first (sym (some-has-frame (n .slots)) ∙ pending)
 
       frame : (x : Slot) (joined : Joined) → joined ≡ join (here-found .stream) code → x ≡ givenOut code here-found
           → _≡_ {A = Outcome} (record {
@@ -68,11 +64,9 @@ module _ (output : List ℕ) (n : Node) where
           }) (nextFrame output n)
       unfolding give
       frame x joined id made =
-          let of-frame = frame-code here-found has in
-          let same = rw (← lowest-code) at of-frame in
-          let stored = rw (← at-index, same) at (found hasFrame (n .slots) (omega arith) .changes lowestGiven d) in
+          let stored = rw (← at-index) at (found hasFrame (n .slots) (omega arith) .changes lowestGiven d) in
           let given = next-cases output n .accepted-if (record { room = room; pending = pending }) in
-          rw (given, ← is-first, ← stored, same, id, made, lowest-code, ← (frame-id here-found has))
+          rw (given, ← is-first, ← stored, id, made, lowest-code)
 
       pub frame-given : (x : Slot) (joined : Joined) (len : ℕ) (written : List ℕ)
           → joined ≡ join (here-found .stream) code → x ≡ givenOut code here-found

@@ -19,7 +19,7 @@ use Rattle.node.specs.Clock.{period, unbounded, rolled}
 use Rattle.node.specs.SetUp.{setUpRefusals, lessFree, inPlace, setUp}
 use Rattle.node.specs.Hear.{heardBy, deliveredAtOnce, hearRefusals, hear}
 use Rattle.node.specs.Request.{requested, requestRefusals, request}
-use Rattle.node.specs.NextFrame.{pendingIn, isNone, hasFrame, lowestGiven, givenOut, payloadFor, give, nextRefusals, nextFrame}
+use Rattle.node.specs.NextFrame.{hasFrame, lowestGiven, givenOut, payloadFor, give, nextRefusals, nextFrame}
 use Rattle.node.specs.Tick.{late, due, holdOver, lapsed, tickSlot, ageOf, dueSlots, recordsFrom, recordFrom, tickRefusals, tick}
 use Rattle.node.specs.Calls.{Call, outcome, afterFrom, after, Answer, answerOf, answersFrom, answers, rollSlot, roll, rollOutcome}
 use Rattle.node.specs.Reachable.{longest, KeptSlot, All, Kept}
@@ -103,25 +103,18 @@ request-rolls s payload u =
     (ap (λ (n : Node). done n []) (on-slot-rolls s _ _ (requested-rolls (u .counter) payload) u)))
 
 -- ── the next frame ──
-frame-rolls : (x : Slot) → pendingIn (rollSlot x) ≡ pendingIn x
-unfolding pendingIn
-frame-rolls x = refl
-
-has-frame-rolls : (x : Slot) → hasFrame (rollSlot x) ≡ hasFrame x
-has-frame-rolls x = ap (λ (is : List ℕ). not (isNone is)) (frame-rolls x)
-
 give-rolls : (u : Node) → rollOutcome (give u) ≡ give (roll u)
-unfolding give payloadFor givenOut pendingIn
+unfolding give payloadFor givenOut
 give-rolls u =
     rw (
-      first-map hasFrame rollSlot has-frame-rolls refl (u .slots),
-      on-first-map hasFrame rollSlot has-frame-rolls lowestGiven lowestGiven (λ x. refl) (u .slots),
+      first-map hasFrame rollSlot (λ x. refl) refl (u .slots),
+      on-first-map hasFrame rollSlot (λ x. refl) lowestGiven lowestGiven (λ x. refl) (u .slots),
     )
 
 next-frame-rolls : (output : List ℕ) (u : Node) → rollOutcome (nextFrame output u) ≡ nextFrame output (roll u)
 unfolding nextFrame
 next-frame-rolls output u =
-    rw (some-map hasFrame rollSlot has-frame-rolls (u .slots)) (unless-refused-rolls u (nextRefusals output u) _ _ (give-rolls u))
+    rw (some-map hasFrame rollSlot (λ x. refl) (u .slots)) (unless-refused-rolls u (nextRefusals output u) _ _ (give-rolls u))
 
 -- ── a tick ──
 next-rolls : (now : ℕ) → unbounded .next now % period ≡ rolled .next (now % period)

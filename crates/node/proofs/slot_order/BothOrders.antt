@@ -6,6 +6,7 @@ use mathlib.Core.List.{List, [], _∷_, _++_, map}
 use lib.ListN.{take, replicate}
 use Rattle.wire.specs.declared.ids.Stream.{Stream}
 use Rattle.wire.specs.declared.settings.Settings.{Settings}
+use Rattle.wire.specs.Identifiers.{join}
 use Rattle.wire.specs.Classes.{carries}
 use Rattle.wire.specs.Frames.{badFrame}
 use Rattle.wire.specs.Settings.{ofPlain, ofImd, legal}
@@ -19,7 +20,7 @@ use Rattle.node.specs.SetUp.{lessFree, inPlace, setUp}
 use Rattle.node.specs.Hear.{hearRoom, hear, heardBy, deliveredAtOnce}
 use Rattle.node.specs.Tick.{tickRoom, late, due, holdOver, lapsed, dueSlots, recordsFrom, tick}
 use Rattle.node.specs.Request.{request, requested}
-use Rattle.node.specs.NextFrame.{nextRoom, pendingIn, lowest, give, nextFrame}
+use Rattle.node.specs.NextFrame.{nextRoom, give, nextFrame}
 use Rattle.node.specs.Calls.{Call, after}
 use Rattle.node.specs.OldLayout.{oldOutcome}
 use Rattle.node.specs.SlotOrder.{afterBy}
@@ -71,14 +72,14 @@ abbrev given-by-first : Node → ℕ
 given-by-first n = nextFrame (replicate nextRoom 0) n .id .0
 
 pub lowest-in-order : given-by-first (after rolled (sends-plain nine ++ sends-plain five)) ≡ 23
-unfolding setUp lessFree inPlace request requested pendingIn lowest give nextFrame legal first onFirst some
+unfolding setUp lessFree inPlace request requested join give nextFrame legal first onFirst some
 lowest-in-order = refl
 
 -- slots with nothing pending are passed over
 pub first-with-any : given-by-first (after rolled (sends-plain nine ++ (Call.setUp five imd ∷ []))) ≡ 39
-unfolding setUp lessFree inPlace request requested pendingIn lowest give nextFrame legal first onFirst some
+unfolding setUp lessFree inPlace request requested join give nextFrame legal first onFirst some
 first-with-any = refl
 
 pub not-lowest-otherwise : given-by-first (in-old-layout (sends-plain nine ++ sends-plain five)) ≡ 39
-unfolding request requested pendingIn lowest give nextFrame legal first onFirst some
+unfolding request requested join give nextFrame legal first onFirst some
 not-lowest-otherwise = refl

@@ -14,8 +14,8 @@ use Rattle.wire.specs.declared.reply.Reply.the-variants.{ShortOutput, Nothing}
 use Rattle.node.specs.declared.slots.Slot.{Slot}
 use Rattle.node.specs.declared.Node.{Node}
 use Rattle.node.specs.Nodes.{Refusals, unlessRefused}
-use Rattle.node.specs.NextFrame.{nextRoom, pendingIn, isNone, lowest}
-use Rattle.node.specs.OldLayout.{pendingIds, giveById, nextByIdRefusals, nextById}
+use Rattle.node.specs.NextFrame.{nextRoom}
+use Rattle.node.specs.OldLayout.{isNone, lowest, pendingIn, pendingIds, giveById, nextByIdRefusals, nextById}
 use Rattle.node.proofs.Choices.{contrary}
 use Rattle.node.proofs.next_frame.Lowest.{pending-from-slot}
 

@@ -9,18 +9,19 @@ use borrow.Author.Tests.{eqb-true, ne-eqb, leb-true, leb-false, ltb-false, le-lt
 use lib.Dec.{leb}
 use lib.ListN.{length}
 use Rattle.wire.specs.declared.ids.Stream.{Stream}
-use Rattle.wire.specs.Identifiers.{maxBusId, streamOf, codeOf}
+use Rattle.wire.specs.declared.ids.BusId.{BusId}
+use Rattle.wire.specs.Identifiers.{maxBusId, streamOf, codeOf, join}
 use Rattle.node.specs.declared.slots.Slot.{Slot}
 use Rattle.node.specs.declared.Node.{Node}
 use Rattle.node.specs.Slots.{isOf, first, onFirst, some}
-use Rattle.node.specs.NextFrame.{pendingIn, isNone, nextRoom, givenOut, hasFrame, lowestFrame, lowestGiven, give, nextRefusals, nextFrame}
-use Rattle.node.specs.OldLayout.{pendingIds, giveById, nextByIdRefusals, nextById}
+use Rattle.node.specs.NextFrame.{nextRoom, givenOut, hasFrame, lowestCode, lowestGiven, give, nextRefusals, nextFrame}
+use Rattle.node.specs.OldLayout.{isNone, lowest, pendingIn, pendingIds, giveById, nextByIdRefusals, nextById}
 use Rattle.node.specs.Nodes.{Outcome, unlessRefused}
 use Rattle.node.specs.Reachable.{All, After, InOrder}
 use Rattle.node.proofs.Choices.{contrary}
 use Rattle.node.proofs.slots.Table.{all-first}
 use Rattle.node.proofs.Cases.{Cases, cases}
-use Rattle.node.proofs.next_frame.Lowest.{lowest-among, none-in-empty, some-has-frame, pending-from-slot}
+use Rattle.node.proofs.next_frame.Lowest.{has-ids, frame-id, frame-code, lowest-among, none-in-empty, some-has-frame, pending-from-slot}
 use Rattle.node.proofs.slot_order.LowestOfAll.{lowestOrAbove, lowest-at-most, lowest-append, none-lower, lowest-is-one}
 use Rattle.node.proofs.slot_order.LowestOfAll.{refusalsByLowest, by-lowest, next-by-lowest}
 
@@ -58,12 +59,12 @@ none-below (i ∷ is) low none small = contrary none refl
 lowest-in-order : (xs : List Slot) → InOrder xs → lowestOrAbove (pendingIn (first hasFrame xs)) ≡ lowestOrAbove (pendingIds xs)
 unfolding pendingIds first
 lowest-in-order [] h = ap lowestOrAbove none-in-empty
-lowest-in-order (x ∷ xs) h = rw (lowest-append (pendingIn x) (pendingIds xs)) (arm (isNone (pendingIn x)) refl (lowest-in-order xs (h .1)))
+lowest-in-order (x ∷ xs) h = rw (lowest-append (pendingIn x) (pendingIds xs)) (arm (hasFrame x) refl (lowest-in-order xs (h .1)))
   where
-    arm : (t : Bool) → isNone (pendingIn x) ≡ t → lowestOrAbove (pendingIn (first hasFrame xs)) ≡ lowestOrAbove (pendingIds xs)
-        → lowestOrAbove (pendingIn (cond (not t) x (first hasFrame xs))) ≡ min (lowestOrAbove (pendingIn x)) (lowestOrAbove (pendingIds xs))
-    arm true e ih = ih ∙ sym (none-below (pendingIn x) (lowestOrAbove (pendingIds xs)) e (lowest-at-most (pendingIds xs)))
-    arm false e ih = omega (arith, lowest-here x xs (h .0) e)
+    arm : (t : Bool) → hasFrame x ≡ t → lowestOrAbove (pendingIn (first hasFrame xs)) ≡ lowestOrAbove (pendingIds xs)
+        → lowestOrAbove (pendingIn (cond t x (first hasFrame xs))) ≡ min (lowestOrAbove (pendingIn x)) (lowestOrAbove (pendingIds xs))
+    arm true e ih = omega (arith, lowest-here x xs (h .0) (has-ids x ∙ ap not e))
+    arm false e ih = ih ∙ sym (none-below (pendingIn x) (lowestOrAbove (pendingIds xs)) (has-ids x ∙ ap not e) (lowest-at-most (pendingIds xs)))
 
 -- ── the slot that gives it out is that of its stream ──
 module _ (test : Slot → Bool) (s : Stream) where
@@ -106,19 +107,25 @@ module _ (n : Node) where
   abbrev pub giver : Slot
   giver = first hasFrame (n .slots)
 
+  abbrev lowestId : BusId
+  lowestId = record { 0 = lowest (pendingIn giver) }
+
   -- its frame is of its stream
-  own-frame : hasFrame giver ≡ true → isOf (streamOf (lowestFrame giver)) giver ≡ true
-  own-frame frame = pending-from-slot giver (lowest-among (pendingIn giver) (not-true _ frame)) .of-stream
+  own-frame : hasFrame giver ≡ true → isOf (streamOf lowestId) giver ≡ true
+  own-frame frame = pending-from-slot giver (lowest-among (pendingIn giver) (has-ids giver ∙ ap not frame)) .of-stream
 
-  pub giver-of-stream : some hasFrame (n .slots) ≡ true → isOf (streamOf (lowestFrame giver)) giver ≡ true
-  giver-of-stream pending = own-frame (sym (some-has-frame (n .slots)) ∙ pending)
+  pub giver-of-stream : some hasFrame (n .slots) ≡ true → isOf (streamOf (join (giver .stream) (lowestCode giver) .id)) giver ≡ true
+  giver-of-stream pending =
+      let frame : hasFrame giver ≡ true = sym (some-has-frame (n .slots)) ∙ pending in
+      rw (frame-id giver frame) (own-frame frame)
 
-  give-in-order : InOrder (n .slots) → hasFrame giver ≡ true → give n ≡ giveById (lowestFrame giver) n
+  give-in-order : InOrder (n .slots) → hasFrame giver ≡ true → give n ≡ giveById lowestId n
   unfolding give giveById
   give-in-order h frame =
-      let id = lowestFrame giver in
-      let own = of-stream hasFrame (streamOf id) (n .slots) h (own-frame frame) in
-      rw (own .found, own .changed (givenOut (codeOf id)), same-change hasFrame lowestGiven (givenOut (codeOf id)) (n .slots) refl)
+      let own = of-stream hasFrame (streamOf lowestId) (n .slots) h (own-frame frame) in
+      let code = frame-code giver frame in
+      let same = same-change hasFrame lowestGiven (givenOut (codeOf lowestId)) (n .slots) (ap (λ (c : ℕ). givenOut c giver) (sym code)) in
+      rw (own .found, own .changed (givenOut (codeOf lowestId)), ← same, code, frame-id giver frame)
 
 -- ── the next frame ──
 giver-in-range : (n : Node) (i : ℕ) → List·Memᴰ i (pendingIn (giver n)) → i ≤ maxBusId
@@ -127,15 +134,15 @@ giver-in-range n i m = pending-from-slot (giver n) m .in-range
 pub next-in-order : (output : List ℕ) (n : Node) → InOrder (n .slots) → nextFrame output n ≡ nextById output n
 unfolding nextFrame
 next-in-order output n h =
-    by-giver (isNone (pendingIn (giver n))) refl
+    by-giver (hasFrame (giver n)) refl
     ∙ (by-lowest output n (pendingIn (giver n)) (giver-in-range n)
     ∙ rw (lowest-in-order (n .slots) h) (sym (next-by-lowest output n)))
   where
-    by-giver : (t : Bool) → isNone (pendingIn (giver n)) ≡ t
+    by-giver : (t : Bool) → hasFrame (giver n) ≡ t
         → unlessRefused n (nextRefusals output n) (give n)
-        ≡ unlessRefused n (nextByIdRefusals output (pendingIn (giver n))) (giveById (lowestFrame (giver n)) n)
-    by-giver true e = rw (some-has-frame (n .slots), e)
-    by-giver false e = rw (some-has-frame (n .slots), e, give-in-order n h (ap not e))
+        ≡ unlessRefused n (nextByIdRefusals output (pendingIn (giver n))) (giveById (lowestId n) n)
+    by-giver true e = rw (some-has-frame (n .slots), has-ids (giver n), e, give-in-order n h e)
+    by-giver false e = rw (some-has-frame (n .slots), has-ids (giver n), e)
 
 -- by cases, as in the old layout: refused, or the lowest of all is given out
 module _ (output : List ℕ) (n : Node) (h : InOrder (n .slots)) where

@@ -9,8 +9,7 @@ use Rattle.node.specs.declared.slots.Slot.{Slot}
 use Rattle.node.specs.Slots.{isOf, some}
 use Rattle.node.specs.Clock.{Clock}
 use Rattle.node.specs.Tick.{due, ageOf}
-use Rattle.node.specs.NextFrame.{pendingIn}
-use Rattle.node.specs.OldLayout.{place, dueByStream, pendingIds}
+use Rattle.node.specs.OldLayout.{place, dueByStream, pendingIn, pendingIds}
 use Rattle.node.specs.SlotOrder.{Distinct}
 use Rattle.node.proofs.Choices.{neither}
 use Rattle.node.proofs.tick.Tests.{due-tells}

@@ -8,7 +8,6 @@ use lib.Dec.{eqb}
 use borrow.Author.Tests.{eqb-false, ne-eqb}
 use Rattle.wire.specs.declared.ids.Stream.{Stream}
 use Rattle.wire.specs.declared.settings.Settings.{Settings}
-use Rattle.wire.specs.Identifiers.{codeOf}
 use Rattle.node.specs.declared.slots.Slot.{Slot}
 use Rattle.node.specs.declared.Node.{Node}
 use Rattle.node.specs.Slots.{slotFor, empty, isFree, isOf, onFirst, some}
@@ -18,7 +17,7 @@ use Rattle.node.specs.Hear.{heardBy}
 use Rattle.node.specs.Clock.{Clock}
 use Rattle.node.specs.Tick.{late, due, holdOver, lapsed, ageOf, tickSlot, ticked}
 use Rattle.node.specs.Request.{requested}
-use Rattle.node.specs.NextFrame.{givenOut, lowestFrame, lowestGiven}
+use Rattle.node.specs.NextFrame.{givenOut, lowestCode, lowestGiven}
 use Rattle.node.proofs.Choices.{either-way, neither}
 use Rattle.node.proofs.slots.Table.{some-map, first-map, some-on-first, first-on-first}
 
@@ -55,7 +54,7 @@ unfolding givenOut
 given-out-keeps code x = refl
 
 pub lowest-given-keeps : KeepsKind lowestGiven
-lowest-given-keeps x = given-out-keeps (codeOf (lowestFrame x)) x
+lowest-given-keeps x = given-out-keeps (lowestCode x) x
 
 abbrev is-of : Stream → Kind → Bool
 is-of s k = k .used && eqb (k .stream .0) (s .0)

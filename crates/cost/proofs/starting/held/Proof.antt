@@ -5,10 +5,10 @@ use Rattle.cost.proofs.starting.held.Statement.{statement}
 use Rattle.cost.proofs.starting.held.Tie as tie
 
 abbrev Inv-loop : tie.InvT-loop
-Inv-loop of-four apart node₀ k₀ node k = k ≤ 32
+Inv-loop done of-four apart node₀ k₀ node k = k ≤ 32
 
 abbrev μ-loop : tie.MeasureT-loop
-μ-loop of-four apart node₀ k₀ node k = 32 - k
+μ-loop done of-four apart node₀ k₀ node k = 32 - k
 
 pub held-spec : {M : Type 1} → statement M
 held-spec =
