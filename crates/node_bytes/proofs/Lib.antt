@@ -1,0 +1,2 @@
+-- What is shown of the definitions of node_bytes.
+pub mod Places

@@ -1,0 +1,5 @@
+-- The definitions that the promises of node_bytes cite.
+pub mod Layout
+pub mod Decoding
+pub mod Encoding
+pub mod Lent

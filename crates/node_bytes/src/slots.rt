@@ -1,0 +1,130 @@
+// A slot of a node in its bytes.
+use crate::layout;
+use crate::numbers::{eight_at, flag, flag_at, four_at, put_eight, two_at};
+use node::slots::{Message, Pending, Slot};
+use wire::ids::Stream;
+use wire::settings::Settings;
+ghost use mathlib.Core.Path.{_≡_};
+ghost use Prim.Native.Nat.{_+_, _≤_, _<_};
+ghost use lib.ListN.{length};
+ghost use lib.Seq.{sets};
+ghost use Rattle.node.specs.Nodes.{slotCount};
+ghost use Rattle.node_bytes.specs.Layout.{slotStart, slotSize, nodeSize};
+ghost use Rattle.node_bytes.specs.Decoding.{settingsFrom, messageFrom, pendingFrom, slotAt};
+ghost use Rattle.node_bytes.specs.Encoding.{keyRow, stateRow, reachRow, encodeSlot};
+
+// Slot i, of which there are so many.
+pub(crate) fn slot_at(bytes: &[u8], i: usize) -> Slot
+    requires { ⌜ (length (now bytes) ≡ nodeSize) × (i < slotCount) ⌝ }
+    ensures { λ r. ⌜ r ≡ slotAt (now (bytes .entry)) i ⌝ }
+{
+    let at = layout::SLOT_SIZE * i;
+    Slot {
+        stream: Stream(four_at(bytes, at + layout::STREAM)),
+        settings: settings_from(bytes, at),
+        message: message_from(bytes, at),
+        pending: pending_from(bytes, at),
+        used: flag_at(bytes, at + layout::USED),
+    }
+}
+
+// Parts of the slot whose first byte stands at a place.
+fn settings_from(bytes: &[u8], at: usize) -> Settings
+    requires { ⌜ at + slotSize ≤ length (now bytes) ⌝ }
+    ensures { λ r. ⌜ r ≡ settingsFrom (now (bytes .entry)) at ⌝ }
+{
+    Settings::of(
+        bytes[at + layout::ROLE],
+        bytes[at + layout::CLASS],
+        two_at(bytes, at + layout::DATA_REACH),
+        two_at(bytes, at + layout::CONFIRM_DELAY),
+        two_at(bytes, at + layout::ABORT_REACH),
+        two_at(bytes, at + layout::DELIVER_DELAY),
+    )
+}
+
+fn message_from(bytes: &[u8], at: usize) -> Message
+    requires { ⌜ at + slotSize ≤ length (now bytes) ⌝ }
+    ensures { λ r. ⌜ r ≡ messageFrom (now (bytes .entry)) at ⌝ }
+{
+    Message {
+        stamp: two_at(bytes, at + layout::STAMP),
+        len: bytes[at + layout::LEN],
+        held: flag_at(bytes, at + layout::HELD),
+        confirmed: flag_at(bytes, at + layout::CONFIRMED),
+        bytes: eight_at(bytes, at + layout::PAYLOAD),
+    }
+}
+
+fn pending_from(bytes: &[u8], at: usize) -> Pending
+    requires { ⌜ at + slotSize ≤ length (now bytes) ⌝ }
+    ensures { λ r. ⌜ r ≡ pendingFrom (now (bytes .entry)) at ⌝ }
+{
+    Pending {
+        payload: flag_at(bytes, at + layout::PAYLOAD_PENDING),
+        confirmation: flag_at(bytes, at + layout::CONFIRMATION_PENDING),
+        abort: flag_at(bytes, at + layout::ABORT_PENDING),
+    }
+}
+
+pub(crate) fn put_slot(bytes: &mut [u8], i: usize, slot: Slot)
+    requires { ⌜ (length (now bytes) ≡ nodeSize) × (i < slotCount) ⌝ }
+    ensures { λ _. ⌜ now (bytes .exit) ≡ sets (now (bytes .entry)) (slotStart i) (encodeSlot slot) ⌝ }
+{
+    let at = layout::SLOT_SIZE * i;
+    put_eight(bytes, at + layout::STREAM, key_row(slot));
+    put_eight(bytes, at + layout::PAYLOAD_PENDING, state_row(slot));
+    put_eight(bytes, at + layout::DATA_REACH, reach_row(slot.settings));
+    let payload = slot.message.bytes;
+    put_eight(bytes, at + layout::PAYLOAD, payload);
+}
+
+fn key_row(slot: Slot) -> [u8; 8]
+    ensures { λ r. ⌜ r ≡ keyRow slot ⌝ }
+{
+    let s = slot.stream.0;
+    let s1 = s / 256;
+    let s2 = s1 / 256;
+    let s3 = s2 / 256;
+    let stamp = slot.message.stamp;
+    [
+        (s % 256) as u8,
+        (s1 % 256) as u8,
+        (s2 % 256) as u8,
+        (s3 % 256) as u8,
+        flag(slot.used),
+        flag(slot.message.held),
+        (stamp % 256) as u8,
+        (stamp / 256 % 256) as u8,
+    ]
+}
+
+fn state_row(slot: Slot) -> [u8; 8]
+    ensures { λ r. ⌜ r ≡ stateRow slot ⌝ }
+{
+    [
+        flag(slot.pending.payload),
+        flag(slot.pending.confirmation),
+        flag(slot.pending.abort),
+        flag(slot.message.confirmed),
+        slot.message.len,
+        slot.settings.role,
+        slot.settings.class,
+        0,
+    ]
+}
+
+fn reach_row(settings: Settings) -> [u8; 8]
+    ensures { λ r. ⌜ r ≡ reachRow settings ⌝ }
+{
+    [
+        (settings.rd % 256) as u8,
+        (settings.rd / 256 % 256) as u8,
+        (settings.dc % 256) as u8,
+        (settings.dc / 256 % 256) as u8,
+        (settings.ra % 256) as u8,
+        (settings.ra / 256 % 256) as u8,
+        (settings.dd % 256) as u8,
+        (settings.dd / 256 % 256) as u8,
+    ]
+}
