@@ -33,32 +33,32 @@ bytesAt (suc k) bytes at = byteAt bytes at ∷ bytesAt k bytes (suc at)
 module _ (bytes : List ℕ) (at : ℕ) where
   abbrev pub settingsFrom : Settings
   settingsFrom =
-      settings (byteAt bytes (at + roleAt)) (byteAt bytes (at + classAt))
-      (numberAt 2 bytes (at + dataReachAt)) (numberAt 2 bytes (at + confirmDelayAt))
-      (numberAt 2 bytes (at + abortReachAt)) (numberAt 2 bytes (at + deliverDelayAt))
+      settings (byteAt bytes (roleAt + at)) (byteAt bytes (classAt + at))
+      (numberAt 2 bytes (dataReachAt + at)) (numberAt 2 bytes (confirmDelayAt + at))
+      (numberAt 2 bytes (abortReachAt + at)) (numberAt 2 bytes (deliverDelayAt + at))
 
   abbrev pub messageFrom : Message
   messageFrom =
       record {
-        stamp = numberAt 2 bytes (at + stampAt);
-        len = byteAt bytes (at + lenAt);
-        held = flagAt bytes (at + heldAt);
-        confirmed = flagAt bytes (at + confirmedAt);
-        bytes = bytesAt maxPayload bytes (at + payloadAt);
+        stamp = numberAt 2 bytes (stampAt + at);
+        len = byteAt bytes (lenAt + at);
+        held = flagAt bytes (heldAt + at);
+        confirmed = flagAt bytes (confirmedAt + at);
+        bytes = bytesAt maxPayload bytes (payloadAt + at);
       }
 
   abbrev pub pendingFrom : Pending
   pendingFrom =
-      frames (flagAt bytes (at + payloadPendingAt)) (flagAt bytes (at + confirmationPendingAt)) (flagAt bytes (at + abortPendingAt))
+      frames (flagAt bytes (payloadPendingAt + at)) (flagAt bytes (confirmationPendingAt + at)) (flagAt bytes (abortPendingAt + at))
 
   unfoldable pub slotFrom : Slot
   slotFrom =
       record {
-        stream = record { 0 = numberAt 4 bytes (at + streamAt) };
+        stream = record { 0 = numberAt 4 bytes (streamAt + at) };
         settings = settingsFrom;
         message = messageFrom;
         pending = pendingFrom;
-        used = flagAt bytes (at + usedAt);
+        used = flagAt bytes (usedAt + at);
       }
 
 -- ── the node ──

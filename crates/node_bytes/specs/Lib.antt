@@ -3,3 +3,4 @@ pub mod Layout
 pub mod Decoding
 pub mod Encoding
 pub mod Lent
+pub mod Widths

@@ -16,32 +16,32 @@ pub(crate) fn flag_at(bytes: &[u8], at: usize) -> bool
 }
 
 pub(crate) fn two_at(bytes: &[u8], at: usize) -> u16
-    requires { ⌜ at + 2 ≤ length (now bytes) ⌝ }
+    requires { ⌜ 2 + at ≤ length (now bytes) ⌝ }
     ensures { λ r. ⌜ r ≡ numberAt 2 (now (bytes .entry)) at ⌝ }
 {
-    wide16(bytes[at]) + 256 * wide16(bytes[at + 1])
+    wide16(bytes[at]) + 256 * wide16(bytes[1 + at])
 }
 
 pub(crate) fn four_at(bytes: &[u8], at: usize) -> u32
-    requires { ⌜ at + 4 ≤ length (now bytes) ⌝ }
+    requires { ⌜ 4 + at ≤ length (now bytes) ⌝ }
     ensures { λ r. ⌜ r ≡ numberAt 4 (now (bytes .entry)) at ⌝ }
 {
-    wide32(bytes[at]) + 256 * (wide32(bytes[at + 1]) + 256 * (wide32(bytes[at + 2]) + 256 * wide32(bytes[at + 3])))
+    wide32(bytes[at]) + 256 * (wide32(bytes[1 + at]) + 256 * (wide32(bytes[2 + at]) + 256 * wide32(bytes[3 + at])))
 }
 
 pub(crate) fn eight_at(bytes: &[u8], at: usize) -> [u8; 8]
-    requires { ⌜ at + 8 ≤ length (now bytes) ⌝ }
+    requires { ⌜ 8 + at ≤ length (now bytes) ⌝ }
     ensures { λ r. ⌜ r ≡ bytesAt 8 (now (bytes .entry)) at ⌝ }
 {
     [
         bytes[at],
-        bytes[at + 1],
-        bytes[at + 2],
-        bytes[at + 3],
-        bytes[at + 4],
-        bytes[at + 5],
-        bytes[at + 6],
-        bytes[at + 7],
+        bytes[1 + at],
+        bytes[2 + at],
+        bytes[3 + at],
+        bytes[4 + at],
+        bytes[5 + at],
+        bytes[6 + at],
+        bytes[7 + at],
     ]
 }
 
@@ -64,23 +64,23 @@ pub(crate) fn flag(b: bool) -> u8
 }
 
 pub(crate) fn put_two(out: &mut [u8], at: usize, n: u16)
-    requires { ⌜ at + 2 ≤ length (now out) ⌝ }
+    requires { ⌜ 2 + at ≤ length (now out) ⌝ }
     ensures { λ _. ⌜ now (out .exit) ≡ sets (now (out .entry)) at (littleEndian 2 n) ⌝ }
 {
     out[at] = (n % 256) as u8;
-    out[at + 1] = (n / 256 % 256) as u8;
+    out[1 + at] = (n / 256 % 256) as u8;
 }
 
 pub(crate) fn put_eight(out: &mut [u8], at: usize, row: [u8; 8])
-    requires { ⌜ at + 8 ≤ length (now out) ⌝ }
+    requires { ⌜ 8 + at ≤ length (now out) ⌝ }
     ensures { λ _. ⌜ (now (out .exit) ≡ sets (now (out .entry)) at row) × (length (now (out .exit)) ≡ length (now (out .entry))) ⌝ }
 {
     out[at] = row[0];
-    out[at + 1] = row[1];
-    out[at + 2] = row[2];
-    out[at + 3] = row[3];
-    out[at + 4] = row[4];
-    out[at + 5] = row[5];
-    out[at + 6] = row[6];
-    out[at + 7] = row[7];
+    out[1 + at] = row[1];
+    out[2 + at] = row[2];
+    out[3 + at] = row[3];
+    out[4 + at] = row[4];
+    out[5 + at] = row[5];
+    out[6 + at] = row[6];
+    out[7 + at] = row[7];
 }

@@ -20,50 +20,50 @@ pub(crate) fn slot_at(bytes: &[u8], i: usize) -> Slot
 {
     let at = layout::SLOT_SIZE * i;
     Slot {
-        stream: Stream(four_at(bytes, at + layout::STREAM)),
+        stream: Stream(four_at(bytes, layout::STREAM + at)),
         settings: settings_from(bytes, at),
         message: message_from(bytes, at),
         pending: pending_from(bytes, at),
-        used: flag_at(bytes, at + layout::USED),
+        used: flag_at(bytes, layout::USED + at),
     }
 }
 
 // Parts of the slot whose first byte stands at a place.
 fn settings_from(bytes: &[u8], at: usize) -> Settings
-    requires { ⌜ at + slotSize ≤ length (now bytes) ⌝ }
+    requires { ⌜ slotSize + at ≤ length (now bytes) ⌝ }
     ensures { λ r. ⌜ r ≡ settingsFrom (now (bytes .entry)) at ⌝ }
 {
     Settings::of(
-        bytes[at + layout::ROLE],
-        bytes[at + layout::CLASS],
-        two_at(bytes, at + layout::DATA_REACH),
-        two_at(bytes, at + layout::CONFIRM_DELAY),
-        two_at(bytes, at + layout::ABORT_REACH),
-        two_at(bytes, at + layout::DELIVER_DELAY),
+        bytes[layout::ROLE + at],
+        bytes[layout::CLASS + at],
+        two_at(bytes, layout::DATA_REACH + at),
+        two_at(bytes, layout::CONFIRM_DELAY + at),
+        two_at(bytes, layout::ABORT_REACH + at),
+        two_at(bytes, layout::DELIVER_DELAY + at),
     )
 }
 
 fn message_from(bytes: &[u8], at: usize) -> Message
-    requires { ⌜ at + slotSize ≤ length (now bytes) ⌝ }
+    requires { ⌜ slotSize + at ≤ length (now bytes) ⌝ }
     ensures { λ r. ⌜ r ≡ messageFrom (now (bytes .entry)) at ⌝ }
 {
     Message {
-        stamp: two_at(bytes, at + layout::STAMP),
-        len: bytes[at + layout::LEN],
-        held: flag_at(bytes, at + layout::HELD),
-        confirmed: flag_at(bytes, at + layout::CONFIRMED),
-        bytes: eight_at(bytes, at + layout::PAYLOAD),
+        stamp: two_at(bytes, layout::STAMP + at),
+        len: bytes[layout::LEN + at],
+        held: flag_at(bytes, layout::HELD + at),
+        confirmed: flag_at(bytes, layout::CONFIRMED + at),
+        bytes: eight_at(bytes, layout::PAYLOAD + at),
     }
 }
 
 fn pending_from(bytes: &[u8], at: usize) -> Pending
-    requires { ⌜ at + slotSize ≤ length (now bytes) ⌝ }
+    requires { ⌜ slotSize + at ≤ length (now bytes) ⌝ }
     ensures { λ r. ⌜ r ≡ pendingFrom (now (bytes .entry)) at ⌝ }
 {
     Pending {
-        payload: flag_at(bytes, at + layout::PAYLOAD_PENDING),
-        confirmation: flag_at(bytes, at + layout::CONFIRMATION_PENDING),
-        abort: flag_at(bytes, at + layout::ABORT_PENDING),
+        payload: flag_at(bytes, layout::PAYLOAD_PENDING + at),
+        confirmation: flag_at(bytes, layout::CONFIRMATION_PENDING + at),
+        abort: flag_at(bytes, layout::ABORT_PENDING + at),
     }
 }
 
@@ -72,11 +72,11 @@ pub(crate) fn put_slot(bytes: &mut [u8], i: usize, slot: Slot)
     ensures { λ _. ⌜ now (bytes .exit) ≡ sets (now (bytes .entry)) (slotStart i) (encodeSlot slot) ⌝ }
 {
     let at = layout::SLOT_SIZE * i;
-    put_eight(bytes, at + layout::STREAM, key_row(slot));
-    put_eight(bytes, at + layout::PAYLOAD_PENDING, state_row(slot));
-    put_eight(bytes, at + layout::DATA_REACH, reach_row(slot.settings));
+    put_eight(bytes, layout::STREAM + at, key_row(slot));
+    put_eight(bytes, layout::PAYLOAD_PENDING + at, state_row(slot));
+    put_eight(bytes, layout::DATA_REACH + at, reach_row(slot.settings));
     let payload = slot.message.bytes;
-    put_eight(bytes, at + layout::PAYLOAD, payload);
+    put_eight(bytes, layout::PAYLOAD + at, payload);
 }
 
 fn key_row(slot: Slot) -> [u8; 8]

@@ -39,7 +39,7 @@ cast-t21 c = search needs
 
 -- src/slots.rt:60:1
 returns : tie.Need-returns
-returns c = ?
+returns c = rw (c .before .flag .ensures, c .flag2 .ensures)
 
 pub key-row-spec : {M : Type 1} → statement M
 key-row-spec =

@@ -49,7 +49,8 @@ eight-at-requires c κs = search needs
 
 -- src/slots.rt:46:1
 returns : tie.Need-returns
-returns c = ?
+returns c =
+    rw (c .before .before .before .before .two-at .ensures, c .before .before .flag-at .ensures, c .before .flag-at2 .ensures, c .eight-at .ensures)
 
 pub message-from-spec : {M : Type 1} → statement M
 message-from-spec =

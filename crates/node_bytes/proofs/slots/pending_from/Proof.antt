@@ -31,7 +31,7 @@ flag-at-requires-3 c κs = search needs
 
 -- src/slots.rt:59:1
 returns : tie.Need-returns
-returns c = ?
+returns c = rw (c .before .before .flag-at .ensures, c .before .flag-at2 .ensures, c .flag-at3 .ensures)
 
 pub pending-from-spec : {M : Type 1} → statement M
 pending-from-spec =

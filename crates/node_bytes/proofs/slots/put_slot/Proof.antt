@@ -1,4 +1,11 @@
 use borrow.Author.Needs.{needs}
+use Rattle.node_bytes.specs.Widths.{SlotFits}
+use native.Mathlib.Omega.{arith}
+use mathlib.Core.Path.{_≡_}
+use lib.ListN.{length}
+use denote.Ref.{now}
+use Rattle.node_bytes.proofs.Places.{rows-stored}
+use Rattle.node_bytes.specs.Layout.{slotStart}
 use Rattle.node_bytes.proofs.slots.put_slot.Statement.{statement}
 use Rattle.node_bytes.proofs.slots.put_slot.Tie as tie
 use Rattle.node_bytes.proofs.slots.put_slot.Reads as reads
@@ -7,6 +14,17 @@ use Rattle.node_bytes.proofs.numbers.put_eight.Reads as put-eight-reads
 use Rattle.node_bytes.proofs.slots.key_row.Reads as key-row-reads
 use Rattle.node_bytes.proofs.slots.reach_row.Reads as reach-row-reads
 use Rattle.node_bytes.proofs.slots.state_row.Reads as state-row-reads
+
+eight-bytes : (c : tie.Start) → length (c .args .slot .message .bytes) ≡ 8
+eight-bytes c = search needs
+
+fits : (c : tie.Start) → SlotFits (c .args .slot)
+fits c =
+    record {
+      stream = search needs;
+      settings = record { role = search needs; class = search needs; rd = search needs; dc = search needs; ra = search needs; dd = search needs };
+      message = record { stamp = search needs; len = search needs; eight-bytes = search needs };
+    }
 
 -- src/slots.rt:52:14
 mul-at : tie.Need-mul-at
@@ -62,7 +80,22 @@ same-length c = search needs
 
 -- src/slots.rt:48:1
 returns : tie.Need-returns
-returns c = ?
+returns c =
+    let third = c .before .before .before .before .before .before .before in
+    let second = third .before .before .before .before .before in
+    let first = second .before .before .before .before .before in
+    let start = first .before .before .before .before in
+    let a = start .args in
+    rw (
+      c .before .before .put-eight4 .ensures .0,
+      third .put-eight3 .ensures .0,
+      third .before .reach-row .ensures,
+      second .put-eight2 .ensures .0,
+      second .before .state-row .ensures,
+      first .put-eight .ensures .0,
+      first .before .key-row .ensures,
+    )
+    (rows-stored (now (a .bytes)) (slotStart (a .i)) (a .slot) (eight-bytes start))
 
 pub put-slot-spec : {M : Type 1} → statement M
 put-slot-spec =

@@ -60,7 +60,14 @@ of-requires c κs = search needs
 
 -- src/slots.rt:32:1
 returns : tie.Need-returns
-returns c = ?
+returns c =
+    rw (
+      c .of .ensures,
+      c .before .before .before .before .two-at .ensures,
+      c .before .before .before .two-at2 .ensures,
+      c .before .before .two-at3 .ensures,
+      c .before .two-at4 .ensures,
+    )
 
 pub settings-from-spec : {M : Type 1} → statement M
 settings-from-spec =

@@ -1,4 +1,5 @@
 use borrow.Author.Needs.{needs}
+use Rattle.node_bytes.specs.Decoding.{slotFrom}
 use Rattle.node_bytes.proofs.slots.slot_at.Statement.{statement}
 use Rattle.node_bytes.proofs.slots.slot_at.Tie as tie
 use Rattle.node_bytes.proofs.slots.slot_at.Reads as reads
@@ -43,7 +44,15 @@ flag-at-requires c κs = search needs
 
 -- src/slots.rt:17:1
 returns : tie.Need-returns
-returns c = ?
+unfolding slotFrom
+returns c =
+    rw (
+      c .before .before .before .before .four-at .ensures,
+      c .before .before .before .settings-from .ensures,
+      c .before .before .message-from .ensures,
+      c .before .pending-from .ensures,
+      c .flag-at .ensures,
+    )
 
 pub slot-at-spec : {M : Type 1} → statement M
 slot-at-spec =
