@@ -2,3 +2,6 @@
 pub mod Places
 pub mod Elsewhere
 pub mod SlotRoundTrip
+pub mod ByIndex
+pub mod NodeRoundTrip
+pub mod Stored

@@ -4,3 +4,4 @@ pub mod Decoding
 pub mod Encoding
 pub mod Lent
 pub mod Widths
+pub mod Laws
