@@ -5,3 +5,5 @@ pub mod SlotRoundTrip
 pub mod ByIndex
 pub mod NodeRoundTrip
 pub mod Stored
+pub mod Fitting
+pub mod Lent

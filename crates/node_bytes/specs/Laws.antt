@@ -28,6 +28,9 @@ EncodedIsNode = (n : Node) → NodeFits n → isNode (encode n) ≡ true
 abbrev pub CallsFit : Type 0
 CallsFit = (h : List Call) → NodeFits (after rolled h)
 
+abbrev pub RoundTripOfCalls : Type 0
+RoundTripOfCalls = (h : List Call) → decode (encode (after rolled h)) ≡ after rolled h
+
 -- and so is the node that any bytes are
 abbrev pub DecodedFits : Type 0
 DecodedFits = (bytes : List ℕ) → AreBytes bytes → NodeFits (decode bytes)

@@ -1,3 +1,5 @@
+pub mod counter;
+pub mod fresh;
 pub mod layout;
 mod numbers;
 pub mod slots;

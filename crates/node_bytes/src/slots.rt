@@ -1,5 +1,6 @@
 // A slot of a node in its bytes.
 use crate::layout;
+use crate::layout::is_slot;
 use crate::numbers::{eight_at, flag, flag_at, four_at, put_eight, two_at};
 use node::slots::{Message, Pending, Slot};
 use wire::ids::Stream;
@@ -8,12 +9,89 @@ ghost use mathlib.Core.Path.{_≡_};
 ghost use Prim.Native.Nat.{_+_, _≤_, _<_};
 ghost use lib.ListN.{length};
 ghost use lib.Seq.{sets};
+ghost use mathlib.Core.Bool.{true};
+ghost use Rattle.node.specs.Slots.{isFree, isOf};
 ghost use Rattle.node.specs.Nodes.{slotCount};
+ghost use Rattle.node.specs.Request.{hasPending};
 ghost use Rattle.node_bytes.specs.Layout.{slotStart, slotSize, nodeSize};
-ghost use Rattle.node_bytes.specs.Decoding.{settingsFrom, messageFrom, pendingFrom, slotAt};
+ghost use Rattle.node_bytes.specs.Decoding.{settingsFrom, messageFrom, pendingFrom, slotAt, decode};
+ghost use Rattle.node_bytes.specs.Lent.{isNode, readSlot, storeSlot, withSlot};
 ghost use Rattle.node_bytes.specs.Encoding.{keyRow, stateRow, reachRow, encodeSlot};
 
-// Slot i, of which there are so many.
+// ── for every buffer and every index ──
+
+// Slot i, or the empty slot where there is none.
+pub fn read_slot(bytes: &[u8], i: usize) -> Slot
+    ensures { λ r. ⌜ r ≡ readSlot (now (bytes .entry)) i ⌝ }
+{
+    if is_slot(bytes.len(), i) {
+        return slot_at(bytes, i);
+    }
+    Slot::empty()
+}
+
+// Sets slot i, and nothing where there is none.
+pub fn store_slot(bytes: &mut [u8], i: usize, slot: Slot)
+    ensures bytes { λ _. ⌜ now (bytes .exit) ≡ storeSlot i slot (now (bytes .entry)) ⌝ }
+    ensures decoded { λ _. ⌜ (isNode (now (bytes .entry)) ≡ true
+        → decode (now (bytes .exit)) ≡ withSlot i slot (decode (now (bytes .entry)))) ⌝ }
+{
+    if is_slot(bytes.len(), i) {
+        put_slot(bytes, i, slot);
+    }
+}
+
+// Whether slot i is in use for this stream.
+pub fn is_of(bytes: &[u8], i: usize, stream: Stream) -> bool
+    ensures { λ r. ⌜ r ≡ isOf stream (readSlot (now (bytes .entry)) i) ⌝ }
+{
+    if is_slot(bytes.len(), i) {
+        return of_at(bytes, i, stream);
+    }
+    false
+}
+
+pub fn is_free(bytes: &[u8], i: usize) -> bool
+    ensures { λ r. ⌜ r ≡ isFree (readSlot (now (bytes .entry)) i) ⌝ }
+{
+    if is_slot(bytes.len(), i) {
+        return free_at(bytes, i);
+    }
+    true
+}
+
+// Whether any frame is pending in slot i.
+pub fn has_pending(bytes: &[u8], i: usize) -> bool
+    ensures { λ r. ⌜ r ≡ hasPending (readSlot (now (bytes .entry)) i .pending) ⌝ }
+{
+    if is_slot(bytes.len(), i) {
+        return pending_at(bytes, i);
+    }
+    false
+}
+
+// Whether slot i holds a message.
+pub fn is_held(bytes: &[u8], i: usize) -> bool
+    ensures { λ r. ⌜ r ≡ readSlot (now (bytes .entry)) i .message .held ⌝ }
+{
+    if is_slot(bytes.len(), i) {
+        return held_at(bytes, i);
+    }
+    false
+}
+
+// The counter when it was taken up.
+pub fn stamp(bytes: &[u8], i: usize) -> u16
+    ensures { λ r. ⌜ r ≡ readSlot (now (bytes .entry)) i .message .stamp ⌝ }
+{
+    if is_slot(bytes.len(), i) {
+        return stamp_at(bytes, i);
+    }
+    0
+}
+
+// ── for a slot that is there ──
+
 pub(crate) fn slot_at(bytes: &[u8], i: usize) -> Slot
     requires { ⌜ (length (now bytes) ≡ nodeSize) × (i < slotCount) ⌝ }
     ensures { λ r. ⌜ r ≡ slotAt (now (bytes .entry)) i ⌝ }
@@ -26,6 +104,43 @@ pub(crate) fn slot_at(bytes: &[u8], i: usize) -> Slot
         pending: pending_from(bytes, at),
         used: flag_at(bytes, layout::USED + at),
     }
+}
+
+pub(crate) fn of_at(bytes: &[u8], i: usize, stream: Stream) -> bool
+    requires { ⌜ (length (now bytes) ≡ nodeSize) × (i < slotCount) ⌝ }
+    ensures { λ r. ⌜ r ≡ isOf stream (slotAt (now (bytes .entry)) i) ⌝ }
+{
+    let at = layout::SLOT_SIZE * i;
+    flag_at(bytes, layout::USED + at) & (four_at(bytes, layout::STREAM + at) == stream.0)
+}
+
+pub(crate) fn free_at(bytes: &[u8], i: usize) -> bool
+    requires { ⌜ (length (now bytes) ≡ nodeSize) × (i < slotCount) ⌝ }
+    ensures { λ r. ⌜ r ≡ isFree (slotAt (now (bytes .entry)) i) ⌝ }
+{
+    !flag_at(bytes, layout::USED + layout::SLOT_SIZE * i)
+}
+
+pub(crate) fn pending_at(bytes: &[u8], i: usize) -> bool
+    requires { ⌜ (length (now bytes) ≡ nodeSize) × (i < slotCount) ⌝ }
+    ensures { λ r. ⌜ r ≡ hasPending (slotAt (now (bytes .entry)) i .pending) ⌝ }
+{
+    let p = pending_from(bytes, layout::SLOT_SIZE * i);
+    p.any()
+}
+
+pub(crate) fn held_at(bytes: &[u8], i: usize) -> bool
+    requires { ⌜ (length (now bytes) ≡ nodeSize) × (i < slotCount) ⌝ }
+    ensures { λ r. ⌜ r ≡ slotAt (now (bytes .entry)) i .message .held ⌝ }
+{
+    flag_at(bytes, layout::HELD + layout::SLOT_SIZE * i)
+}
+
+pub(crate) fn stamp_at(bytes: &[u8], i: usize) -> u16
+    requires { ⌜ (length (now bytes) ≡ nodeSize) × (i < slotCount) ⌝ }
+    ensures { λ r. ⌜ r ≡ slotAt (now (bytes .entry)) i .message .stamp ⌝ }
+{
+    two_at(bytes, layout::STAMP + layout::SLOT_SIZE * i)
 }
 
 // Parts of the slot whose first byte stands at a place.
@@ -69,7 +184,8 @@ fn pending_from(bytes: &[u8], at: usize) -> Pending
 
 pub(crate) fn put_slot(bytes: &mut [u8], i: usize, slot: Slot)
     requires { ⌜ (length (now bytes) ≡ nodeSize) × (i < slotCount) ⌝ }
-    ensures { λ _. ⌜ now (bytes .exit) ≡ sets (now (bytes .entry)) (slotStart i) (encodeSlot slot) ⌝ }
+    ensures { λ _. ⌜ (now (bytes .exit) ≡ sets (now (bytes .entry)) (slotStart i) (encodeSlot slot))
+        × (decode (now (bytes .exit)) ≡ withSlot i slot (decode (now (bytes .entry)))) ⌝ }
 {
     let at = layout::SLOT_SIZE * i;
     put_eight(bytes, layout::STREAM + at, key_row(slot));

@@ -1,10 +1,13 @@
 use borrow.Author.Needs.{needs}
 use Rattle.node_bytes.specs.Widths.{SlotFits}
 use native.Mathlib.Omega.{arith}
-use mathlib.Core.Path.{_≡_}
-use lib.ListN.{length}
+use mathlib.Core.Path.{_≡_, ap, _∙_}
+use lib.Seq.{sets}
 use denote.Ref.{now}
+use Rattle.node_bytes.specs.Decoding.{decode}
+use Rattle.node_bytes.specs.Encoding.{encodeSlot}
 use Rattle.node_bytes.proofs.Places.{rows-stored}
+use Rattle.node_bytes.proofs.Stored.{decode-stored}
 use Rattle.node_bytes.specs.Layout.{slotStart}
 use Rattle.node_bytes.proofs.slots.put_slot.Statement.{statement}
 use Rattle.node_bytes.proofs.slots.put_slot.Tie as tie
@@ -14,9 +17,6 @@ use Rattle.node_bytes.proofs.numbers.put_eight.Reads as put-eight-reads
 use Rattle.node_bytes.proofs.slots.key_row.Reads as key-row-reads
 use Rattle.node_bytes.proofs.slots.reach_row.Reads as reach-row-reads
 use Rattle.node_bytes.proofs.slots.state_row.Reads as state-row-reads
-
-eight-bytes : (c : tie.Start) → length (c .args .slot .message .bytes) ≡ 8
-eight-bytes c = search needs
 
 fits : (c : tie.Start) → SlotFits (c .args .slot)
 fits c =
@@ -79,6 +79,7 @@ same-length : tie.Need-same-length
 same-length c = search needs
 
 -- src/slots.rt:48:1
+-- the rows, one behind the other
 returns : tie.Need-returns
 returns c =
     let third = c .before .before .before .before .before .before .before in
@@ -86,6 +87,8 @@ returns c =
     let first = second .before .before .before .before .before in
     let start = first .before .before .before .before in
     let a = start .args in
+    let fit = fits start in
+    let written : c .before .before .put-eight4 .last .0 ≡ sets (now (a .bytes)) (slotStart (a .i)) (encodeSlot (a .slot)) =
     rw (
       c .before .before .put-eight4 .ensures .0,
       third .put-eight3 .ensures .0,
@@ -95,7 +98,8 @@ returns c =
       first .put-eight .ensures .0,
       first .before .key-row .ensures,
     )
-    (rows-stored (now (a .bytes)) (slotStart (a .i)) (a .slot) (eight-bytes start))
+    (rows-stored (now (a .bytes)) (slotStart (a .i)) (a .slot) (fit .message .eight-bytes)) in
+    (written, ap decode written ∙ decode-stored (now (a .bytes)) (a .i) (a .slot) (start .pre .0) (start .pre .1) fit)
 
 pub put-slot-spec : {M : Type 1} → statement M
 put-slot-spec =
