@@ -40,6 +40,14 @@ pub not-there : (bytes : List ℕ) (i : ℕ) → isSlot bytes i ≡ false → re
 unfolding readSlot
 not-there bytes i e = rw e
 
+-- what is asked of a slot: where the code's test found it, and where not
+module _ {R : Type 0} (ask : Slot → R) (bytes : List ℕ) (i : ℕ) {t : Bool} (test : t ≡ isSlot bytes i) where
+  pub asked-there : t ≡ true → {r : R} → r ≡ ask (slotAt bytes i) → r ≡ ask (readSlot bytes i)
+  asked-there e answer = answer ∙ ap ask (sym (there bytes i (sym test ∙ e)))
+
+  pub asked-empty : t ≡ false → ask empty ≡ ask (readSlot bytes i)
+  asked-empty e = ap ask (sym (not-there bytes i (sym test ∙ e)))
+
 pub slot-read : SlotRead
 unfolding readSlot
 slot-read bytes i d e = rw e (sym (decoded-slot bytes i d (is-slot bytes i e .1)))

@@ -1,7 +1,8 @@
 // The counter of a node in its bytes.
 use crate::layout;
 use crate::layout::is_node;
-use crate::numbers::{put_two, two_at};
+use crate::numbers::put_two;
+use crate::numbers::two_at;
 ghost use mathlib.Core.Path.{_≡_};
 ghost use mathlib.Core.Bool.{true};
 ghost use lib.ListN.{length};

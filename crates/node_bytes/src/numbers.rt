@@ -26,7 +26,9 @@ pub(crate) fn four_at(bytes: &[u8], at: usize) -> u32
     requires { ⌜ 4 + at ≤ length (now bytes) ⌝ }
     ensures { λ r. ⌜ r ≡ numberAt 4 (now (bytes .entry)) at ⌝ }
 {
-    wide32(bytes[at]) + 256 * (wide32(bytes[1 + at]) + 256 * (wide32(bytes[2 + at]) + 256 * wide32(bytes[3 + at])))
+    wide32(bytes[at])
+        + 256
+            * (wide32(bytes[1 + at]) + 256 * (wide32(bytes[2 + at]) + 256 * wide32(bytes[3 + at])))
 }
 
 pub(crate) fn eight_at(bytes: &[u8], at: usize) -> [u8; 8]

@@ -1,8 +1,15 @@
 // A slot of a node in its bytes.
 use crate::layout;
 use crate::layout::is_slot;
-use crate::numbers::{eight_at, flag, flag_at, four_at, put_eight, two_at};
-use node::slots::{Message, Pending, Slot};
+use crate::numbers::eight_at;
+use crate::numbers::flag;
+use crate::numbers::flag_at;
+use crate::numbers::four_at;
+use crate::numbers::put_eight;
+use crate::numbers::two_at;
+use node::slots::Message;
+use node::slots::Pending;
+use node::slots::Slot;
 use wire::ids::Stream;
 use wire::settings::Settings;
 ghost use mathlib.Core.Path.{_≡_};

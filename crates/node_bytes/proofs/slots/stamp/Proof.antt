@@ -1,36 +1,25 @@
+-- `stamp` meets its contract: of the slot that is there, or of the empty one.
 use borrow.Author.Needs.{needs}
-use mathlib.Core.Path.{sym, ap, _∙_}
+use mathlib.Core.Path.{sym, _∙_}
 use denote.Ref.{now}
 use Rattle.node.specs.declared.slots.Slot.{Slot}
-use Rattle.node_bytes.proofs.Lent.{is-slot, there, not-there}
+use Rattle.node_bytes.proofs.Lent.{is-slot, asked-there, asked-empty}
 use Rattle.node_bytes.proofs.slots.stamp.Statement.{statement}
 use Rattle.node_bytes.proofs.slots.stamp.Tie as tie
-use Rattle.node_bytes.proofs.slots.stamp.Reads as reads
-use Rattle.node_bytes.proofs.slots.stamp.Lts as lts
-use Rattle.node_bytes.proofs.layout.is_slot.Reads as is-slot-reads
-use Rattle.node_bytes.proofs.slots.stamp_at.Reads as stamp-at-reads
 
--- src/slots.rt:87:8
-is-slot-requires : tie.Need-is-slot-requires
-is-slot-requires c κs = search needs
-
--- src/slots.rt:88:9
 stamp-at-requires : tie.Need-stamp-at-requires
 stamp-at-requires c κs =
     let a = c .before .before .before .args in is-slot (now (a .bytes)) (a .i) (sym (c .before .is-slot .ensures) ∙ c .if1 .taken)
 
--- src/slots.rt:88:9
 returns : tie.Need-returns
 returns c =
     let a = c .before .before .before .before .args in
-    let e = sym (c .before .before .is-slot .ensures) ∙ c .before .if1 .taken in
-    c .stamp-at .ensures ∙ ap (λ (x : Slot). x .message .stamp) (sym (there (now (a .bytes)) (a .i) e))
+    asked-there (λ (x : Slot). x .message .stamp) (now (a .bytes)) (a .i) (c .before .before .is-slot .ensures) (c .before .if1 .taken) (c .stamp-at .ensures)
 
--- src/slots.rt:84:1
 returns-2 : tie.Need-returns-2
 returns-2 c =
-    let a = c .before .before .before .args in
-    ap (λ (x : Slot). x .message .stamp) (sym (not-there (now (a .bytes)) (a .i) (sym (c .before .is-slot .ensures) ∙ c .if1 .left)))
+    let a = c .before .before .before .args in asked-empty (λ (x : Slot). x .message .stamp) (now (a .bytes)) (a .i) (c .before .is-slot .ensures) (c .if1 .left)
 
 pub stamp-spec : {M : Type 1} → statement M
-stamp-spec = tie.close (tie.spec is-slot-requires stamp-at-requires returns returns-2)
+stamp-spec =
+    tie.close (tie.spec (λ c κs. search needs) stamp-at-requires returns returns-2)
