@@ -2,64 +2,44 @@
 use mathlib.Core.Path.{_≡_, refl, sym, ap, _∙_}
 use mathlib.Core.List.{List, [], _∷_, _++_}
 use Prim.Native.Nat.{ℕ, zero, suc, _+_, _*_}
-use native.Mathlib.Nat.{zero-add, add-zero}
+use native.Mathlib.Nat.{zero-add}
 use native.Mathlib.Omega.{arith}
 use lib.ListN.{length, set}
 use lib.Seq.{sets}
 use Rattle.wire.specs.Frames.{maxPayload}
 use Rattle.wire.specs.Delivered.{numberAt}
 use Rattle.node.specs.declared.slots.Slot.{Slot}
+use Rattle.node_bytes.specs.Layout.{streamAt, payloadPendingAt, dataReachAt, payloadAt}
 use Rattle.node_bytes.specs.Decoding.{byteAt, bytesAt}
 use Rattle.node_bytes.specs.Encoding.{keyRow, stateRow, reachRow, encodeSlot}
 
--- the places behind one
-module _ (at : ℕ) where
-  second : 1 + at ≡ suc at
-  second = omega arith
+-- the place that is k behind another: the code adds, and the definitions count
+abbrev stepped : (k at : ℕ) → ℕ
+stepped zero at = at
+stepped (suc k) at = stepped k (suc at)
 
-  third : 2 + at ≡ suc (suc at)
-  third = omega arith
-
-  fourth : 3 + at ≡ suc (suc (suc at))
-  fourth = omega arith
-
-  fifth : 4 + at ≡ suc (suc (suc (suc at)))
-  fifth = omega arith
-
-  sixth : 5 + at ≡ suc (suc (suc (suc (suc at))))
-  sixth = omega arith
-
-  seventh : 6 + at ≡ suc (suc (suc (suc (suc (suc at)))))
-  seventh = omega arith
-
-  eighth : 7 + at ≡ suc (suc (suc (suc (suc (suc (suc at))))))
-  eighth = omega arith
+steps : (k at : ℕ) → k + at ≡ stepped k at
+steps zero at = zero-add at
+steps (suc k) at = let e : suc k + at ≡ k + suc at = omega arith in e ∙ steps k (suc at)
 
 module _ (bytes : List ℕ) (at : ℕ) where
   pub two-here : byteAt bytes at + 256 * byteAt bytes (1 + at) ≡ numberAt 2 bytes at
-  two-here = rw (second at) (omega arith)
+  two-here = rw (steps 1 at) (omega arith)
 
   pub four-here : byteAt bytes at + 256 * (byteAt bytes (1 + at) + 256 * (byteAt bytes (2 + at) + 256 * byteAt bytes (3 + at))) ≡ numberAt 4 bytes at
-  four-here = rw (second at, third at, fourth at) (omega arith)
+  four-here = rw (steps 1 at, steps 2 at, steps 3 at) (omega arith)
 
   pub eight-here : (byteAt bytes at ∷ byteAt bytes (1 + at) ∷ byteAt bytes (2 + at) ∷ byteAt bytes (3 + at)
       ∷ byteAt bytes (4 + at) ∷ byteAt bytes (5 + at) ∷ byteAt bytes (6 + at) ∷ byteAt bytes (7 + at) ∷ []) ≡ bytesAt 8 bytes at
-  eight-here =
-      rw (second at, third at, fourth at, fifth at, sixth at, seventh at, eighth at)
+  eight-here = rw (steps 1 at, steps 2 at, steps 3 at, steps 4 at, steps 5 at, steps 6 at, steps 7 at)
 
   pub two-stored : (a b : ℕ) → set (set bytes at a) (1 + at) b ≡ sets bytes at (a ∷ b ∷ [])
-  two-stored a b = rw (second at)
+  two-stored a b = rw (steps 1 at)
 
   pub eight-stored : (a b c d e f g h : ℕ)
       → set (set (set (set (set (set (set (set bytes at a) (1 + at) b) (2 + at) c) (3 + at) d) (4 + at) e) (5 + at) f) (6 + at) g) (7 + at) h
       ≡ sets bytes at (a ∷ b ∷ c ∷ d ∷ e ∷ f ∷ g ∷ h ∷ [])
-  eight-stored a b c d e f g h = rw (second at, third at, fourth at, fifth at, sixth at, seventh at, eighth at)
-
--- what is stored right behind other bytes is stored with them
-stored-behind : (out before bytes : List ℕ) (at next : ℕ) → next ≡ at + length before
-    → sets (sets out at before) next bytes ≡ sets out at (before ++ bytes)
-stored-behind out [] bytes at next e = rw (e, add-zero)
-stored-behind out (b ∷ before) bytes at next e = stored-behind (set out at b) before bytes (suc at) next (omega arith)
+  eight-stored a b c d e f g h = rw (steps 1 at, steps 2 at, steps 3 at, steps 4 at, steps 5 at, steps 6 at, steps 7 at)
 
 -- all bytes of a list
 one-later : (k : ℕ) (b : ℕ) (bytes : List ℕ) (at : ℕ) → bytesAt k (b ∷ bytes) (suc at) ≡ bytesAt k bytes at
@@ -72,16 +52,12 @@ all-bytes zero (b ∷ bytes) e = absurd (omega arith)
 all-bytes (suc k) [] e = absurd (omega arith)
 all-bytes (suc k) (b ∷ bytes) e = ap (λ (l : List ℕ). b ∷ l) (one-later k b bytes 0 ∙ all-bytes k bytes (omega arith))
 
--- a slot's four rows
+-- a slot's four rows, each stored at its place
 pub rows-stored : (out : List ℕ) (at : ℕ) (x : Slot) → length (x .message .bytes) ≡ maxPayload
-    → sets (sets (sets (sets out (0 + at) (keyRow x)) (8 + at) (stateRow x)) (16 + at) (reachRow (x .settings))) (24 + at) (x .message .bytes)
+    → sets (sets (sets (sets out (streamAt + at) (keyRow x)) (payloadPendingAt + at) (stateRow x)) (dataReachAt + at) (reachRow (x .settings)))
+    (payloadAt + at) (x .message .bytes)
     ≡ sets out at (encodeSlot x)
 unfolding encodeSlot
 rows-stored out at x eight =
-    rw (
-      zero-add at,
-      stored-behind out (keyRow x) (stateRow x) at (8 + at) (omega arith),
-      stored-behind out (keyRow x ++ stateRow x) (reachRow (x .settings)) at (16 + at) (omega arith),
-      stored-behind out (keyRow x ++ stateRow x ++ reachRow (x .settings)) (x .message .bytes) at (24 + at) (omega arith),
-    )
+    rw (steps streamAt at, steps payloadPendingAt at, steps dataReachAt at, steps payloadAt at)
     (ap (λ (l : List ℕ). sets out at (keyRow x ++ stateRow x ++ reachRow (x .settings) ++ l)) (sym (all-bytes maxPayload (x .message .bytes) eight)))

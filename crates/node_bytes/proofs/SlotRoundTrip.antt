@@ -8,7 +8,7 @@ use native.Mathlib.Omega.{arith}
 use lib.ListN.{length}
 use lib.Dec.{eqb}
 use Rattle.wire.specs.Frames.{maxPayload}
-use Rattle.wire.specs.Delivered.{numberAt}
+use Rattle.wire.specs.Delivered.{littleEndian, numberAt}
 use Rattle.wire.proofs.Reading.{behind, number-behind}
 use Rattle.node.specs.declared.slots.Slot.{Slot}
 use Rattle.node_bytes.specs.Layout.{streamAt, usedAt, heldAt, stampAt, confirmedAt, lenAt, roleAt, classAt, payloadAt}
@@ -16,7 +16,7 @@ use Rattle.node_bytes.specs.Layout.{payloadPendingAt, confirmationPendin
 use Rattle.node_bytes.specs.Layout.{dataReachAt, confirmDelayAt, abortReachAt, deliverDelayAt}
 use Rattle.node_bytes.specs.Decoding.{byteAt, flagAt, bytesAt, slotFrom}
 use Rattle.node_bytes.specs.Encoding.{flag, encodeSlot}
-use Rattle.node_bytes.specs.Widths.{SlotFits}
+use Rattle.node_bytes.specs.Widths.{Fits16, SlotFits}
 use Rattle.node_bytes.proofs.Places.{all-bytes}
 
 flag-back : (b : Bool) → not (eqb (flag b) 0) ≡ b
@@ -42,29 +42,12 @@ module _ (before rest : List ℕ) (x : Slot) (fits : SlotFits x) where
   flag-of : (offset : ℕ) (b : Bool) → byteAt own offset ≡ flag b → flagAt all (offset + at) ≡ b
   flag-of offset b e = rw (behind before own offset, e) (flag-back b)
 
+  two-of : (offset n : ℕ) → Fits16 n → numberAt 2 own offset ≡ numberAt 2 (littleEndian 2 n) 0 → numberAt 2 all (offset + at) ≡ n
+  two-of offset n fit e = number-behind 2 before own offset ∙ e ∙ omega arith
+
   of-stream : numberAt 4 all (streamAt + at) ≡ x .stream .0
   unfolding encodeSlot
   of-stream = number-behind 4 before own streamAt ∙ omega (arith, fits .stream)
-
-  of-stamp : numberAt 2 all (stampAt + at) ≡ x .message .stamp
-  unfolding encodeSlot
-  of-stamp = number-behind 2 before own stampAt ∙ omega (arith, fits .message .stamp)
-
-  of-rd : numberAt 2 all (dataReachAt + at) ≡ x .settings .rd
-  unfolding encodeSlot
-  of-rd = number-behind 2 before own dataReachAt ∙ omega (arith, fits .settings .rd)
-
-  of-dc : numberAt 2 all (confirmDelayAt + at) ≡ x .settings .dc
-  unfolding encodeSlot
-  of-dc = number-behind 2 before own confirmDelayAt ∙ omega (arith, fits .settings .dc)
-
-  of-ra : numberAt 2 all (abortReachAt + at) ≡ x .settings .ra
-  unfolding encodeSlot
-  of-ra = number-behind 2 before own abortReachAt ∙ omega (arith, fits .settings .ra)
-
-  of-dd : numberAt 2 all (deliverDelayAt + at) ≡ x .settings .dd
-  unfolding encodeSlot
-  of-dd = number-behind 2 before own deliverDelayAt ∙ omega (arith, fits .settings .dd)
 
   of-payload : bytesAt maxPayload all (payloadAt + at) ≡ x .message .bytes
   unfolding encodeSlot
@@ -77,7 +60,7 @@ module _ (before rest : List ℕ) (x : Slot) (fits : SlotFits x) where
         of-stream,
         flag-of usedAt (x .used) refl,
         flag-of heldAt (x .message .held) refl,
-        of-stamp,
+        two-of stampAt (x .message .stamp) (fits .message .stamp) refl,
         flag-of payloadPendingAt (x .pending .payload) refl,
         flag-of confirmationPendingAt (x .pending .confirmation) refl,
         flag-of abortPendingAt (x .pending .abort) refl,
@@ -85,9 +68,9 @@ module _ (before rest : List ℕ) (x : Slot) (fits : SlotFits x) where
         behind before own lenAt,
         behind before own roleAt,
         behind before own classAt,
-        of-rd,
-        of-dc,
-        of-ra,
-        of-dd,
+        two-of dataReachAt (x .settings .rd) (fits .settings .rd) refl,
+        two-of confirmDelayAt (x .settings .dc) (fits .settings .dc) refl,
+        two-of abortReachAt (x .settings .ra) (fits .settings .ra) refl,
+        two-of deliverDelayAt (x .settings .dd) (fits .settings .dd) refl,
         of-payload,
       )
