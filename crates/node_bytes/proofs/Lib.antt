@@ -7,3 +7,5 @@ pub mod NodeRoundTrip
 pub mod Stored
 pub mod Fitting
 pub mod Lent
+pub mod Unique
+pub mod WorkedNodes

@@ -5,3 +5,4 @@ pub mod Encoding
 pub mod Lent
 pub mod Widths
 pub mod Laws
+pub mod WorkedNodes
