@@ -4,6 +4,7 @@ pub mod Elsewhere
 pub mod SlotRoundTrip
 pub mod ByIndex
 pub mod NodeRoundTrip
+pub mod AreBytes
 pub mod Stored
 pub mod Fitting
 pub mod Lent

@@ -10,6 +10,7 @@ use Rattle.node.specs.declared.Node.{Node}
 use Rattle.node.specs.Nodes.{fresh}
 use Rattle.node.specs.Clock.{rolled}
 use Rattle.node.specs.Calls.{Call, after}
+use Rattle.node.specs.Reachable.{All}
 use Rattle.node_bytes.specs.Decoding.{decode}
 use Rattle.node_bytes.specs.Encoding.{encode}
 use Rattle.node_bytes.specs.Lent.{isNode, isSlot, readSlot, readCounter, storeSlot, storeCounter, freshIn, withSlot, withCounter}
@@ -23,6 +24,13 @@ RoundTrip = (n : Node) → NodeFits n → decode (encode n) ≡ n
 -- and these are as many as a node has
 abbrev pub EncodedIsNode : Type 0
 EncodedIsNode = (n : Node) → NodeFits n → isNode (encode n) ≡ true
+
+-- each of them below 256, where the messages' bytes are
+abbrev pub PayloadIsBytes : Slot → Type 0
+PayloadIsBytes x = AreBytes (x .message .bytes)
+
+abbrev pub EncodedAreBytes : Type 0
+EncodedAreBytes = (n : Node) → NodeFits n → All PayloadIsBytes (n .slots) → AreBytes (encode n)
 
 -- every node that calls made is such
 abbrev pub CallsFit : Type 0
