@@ -35,7 +35,7 @@ module _ (bytes : List ℕ) (i : ℕ) (x : Slot) (whole : length bytes ≡ nodeS
   abbrev after : List ℕ
   after = sets bytes (slotStart i) (encodeSlot x)
 
-  stored-here : slotAt after i ≡ x
+  pub stored-here : slotAt after i ≡ x
   stored-here =
       let at : ℕ = slotStart i in
       let own : List ℕ = encodeSlot x in
@@ -48,7 +48,7 @@ module _ (bytes : List ℕ) (i : ℕ) (x : Slot) (whole : length bytes ≡ nodeS
   stored-outside : (j : ℕ) → Outside (slotStart i) slotSize j → byteAt after j ≡ byteAt bytes j
   stored-outside j o = byte-elsewhere bytes (encodeSlot x) (slotStart i) j (rw (length-encoded-slot x) o)
 
-  stored-elsewhere : (j : ℕ) → (j < i) ⊎ (i < j) → slotAt after j ≡ slotAt bytes j
+  pub stored-elsewhere : (j : ℕ) → (j < i) ⊎ (i < j) → slotAt after j ≡ slotAt bytes j
   stored-elsewhere j (inl h) = slot-same after bytes (slotStart j) (λ k p q. stored-outside k (inl (omega arith)))
   stored-elsewhere j (inr h) = slot-same after bytes (slotStart j) (λ k p q. stored-outside k (inr (omega arith)))
 

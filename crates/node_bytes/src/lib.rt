@@ -26,6 +26,7 @@
 // Each public function answers for every buffer and every index. The others ask for a buffer of the
 // node's length and a slot that is there: calls test that once, and then use them.
 pub mod counter;
+mod finding;
 pub mod fresh;
 pub mod layout;
 mod numbers;
