@@ -3,7 +3,7 @@ use mathlib.Core.Path.{_≡_, sym, ap, _∙_}
 use mathlib.Core.List.{List}
 use Prim.Native.Nat.{ℕ, _≤_, _<_}
 use native.Mathlib.Omega.{arith}
-use lib.ListN.{length, set}
+use lib.ListN.{length, getD, set}
 use Rattle.wire.specs.declared.ids.Stream.{Stream}
 use Rattle.node.specs.declared.slots.Slot.{Slot}
 use Rattle.node.specs.Slots.{empty, isOf}
@@ -12,6 +12,11 @@ use Rattle.node.proofs.slots.Finding.{indexOf, slot-found, slot-stored, slot-mi
 use Rattle.node_bytes.specs.Decoding.{slotAt, decode}
 use Rattle.node_bytes.specs.Lent.{withSlot}
 use Rattle.node_bytes.proofs.ByIndex.{decoded-slot, decoded-length}
+
+-- what is asked of a slot that was read is asked of the node's slot
+pub asked-of-node : {R : Type 0} (ask : Slot → R) (bytes : List ℕ) (i : ℕ) (x : Slot) {r : R} → i < slotCount → x ≡ slotAt bytes i
+    → ask x ≡ r → ask (getD (decode bytes .slots) i empty) ≡ r
+asked-of-node ask bytes i x h e f = ap ask (decoded-slot bytes i empty h ∙ sym e) ∙ f
 
 module _ (bytes : List ℕ) (s : Stream) (i : ℕ) (at-index : i ≡ indexOf (isOf s) (decode bytes .slots)) where
   pub found-slot : i < slotCount → slotAt bytes i ≡ slotOf s (decode bytes)

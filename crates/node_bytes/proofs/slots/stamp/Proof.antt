@@ -18,7 +18,8 @@ returns c =
 
 returns-2 : tie.Need-returns-2
 returns-2 c =
-    let a = c .before .before .before .args in asked-empty (λ (x : Slot). x .message .stamp) (now (a .bytes)) (a .i) (c .before .is-slot .ensures) (c .if1 .left)
+    let a = c .before .before .before .args in
+    asked-empty (λ (x : Slot). x .message .stamp) (now (a .bytes)) (a .i) (c .before .is-slot .ensures) (c .if1 .left)
 
 pub stamp-spec : {M : Type 1} → statement M
 stamp-spec =
