@@ -1,18 +1,17 @@
 -- What is read where nothing was stored.
-use mathlib.Core.Path.{_≡_, refl, ap, _∙_}
+use mathlib.Core.Path.{_≡_, refl, _∙_}
 use mathlib.Core.Logic.{_⊎_, inl, inr}
 use mathlib.Core.List.{List, [], _∷_}
 use Prim.Native.Nat.{ℕ, zero, suc, _+_, _≤_, _<_}
 use native.Mathlib.Omega.{arith}
 use lib.ListN.{length, set}
 use lib.Seq.{sets, getD-set-other}
-use lib.Dec.{eqb}
 use Rattle.wire.specs.Delivered.{numberAt}
 use Rattle.wire.specs.Frames.{maxPayload}
 use Rattle.node_bytes.specs.Layout.{streamAt, usedAt, heldAt, stampAt, confirmedAt, lenAt, roleAt, classAt, payloadAt}
 use Rattle.node_bytes.specs.Layout.{payloadPendingAt, confirmationPendingAt, abortPendingAt}
 use Rattle.node_bytes.specs.Layout.{dataReachAt, confirmDelayAt, abortReachAt, deliverDelayAt, slotSize}
-use Rattle.node_bytes.specs.Decoding.{byteAt, flagAt, bytesAt, slotFrom}
+use Rattle.node_bytes.specs.Decoding.{byteAt, bytesAt, slotFrom}
 
 -- a place before n bytes, or behind them
 abbrev pub Outside : (at n j : ℕ) → Type 0

@@ -3,26 +3,24 @@ use mathlib.Core.Path.{_≡_, refl, _∙_}
 use mathlib.Core.Bool.{Bool, true, false}
 use mathlib.Core.Logic.{_⊎_, inl, inr}
 use mathlib.Core.List.{List}
-use Prim.Native.Nat.{ℕ, zero, suc, _%_, _≤_, _<_}
+use Prim.Native.Nat.{ℕ, zero, suc, _≤_}
 use native.Mathlib.Omega.{arith}
-use lib.ListN.{length, length-map}
+use lib.ListN.{length-map}
 use Rattle.wire.specs.declared.settings.Settings.{Settings}
 use Rattle.wire.specs.Settings.{maxDeliverDelay, PlainNumbers, ImdNumbers, TwoMessageNumbers}
-use Rattle.wire.specs.Frames.{maxPayload}
 use Rattle.wire.specs.Delivered.{AreBytes, numberAt}
 use Rattle.wire.proofs.LegalSettings.{legal-tells}
 use Rattle.node.specs.declared.slots.Slot.{Slot}
-use Rattle.node.specs.declared.Node.{Node}
 use Rattle.node.specs.Nodes.{slotCount}
 use Rattle.node.specs.Clock.{unbounded, rolled}
-use Rattle.node.specs.Calls.{Call, after, rollSlot, roll}
-use Rattle.node.specs.Reachable.{KeptSlot, Kept, All}
+use Rattle.node.specs.Calls.{after, rollSlot}
+use Rattle.node.specs.Reachable.{KeptSlot, All}
 use Rattle.node.proofs.slots.Table.{all-map}
 use Rattle.node.proofs.kept.EveryCall.{kept}
 use Rattle.node.proofs.rollover.SameAnswers.{rolled-node}
 use Rattle.node_bytes.specs.Layout.{slotStart, counterAt}
-use Rattle.node_bytes.specs.Decoding.{slotFrom, slotAt, slotsAt, decode}
-use Rattle.node_bytes.specs.Widths.{Fits16, Fits32, SettingsFit, MessageFits, SlotFits, NodeFits}
+use Rattle.node_bytes.specs.Decoding.{slotFrom, slotsAt, decode}
+use Rattle.node_bytes.specs.Widths.{Fits16, Fits32, SettingsFit, SlotFits}
 use Rattle.node_bytes.specs.Laws.{DecodedFits, CallsFit, RoundTripOfCalls}
 use Rattle.node_bytes.proofs.ByIndex.{decoded-length}
 use Rattle.node_bytes.proofs.NodeRoundTrip.{round-trip}

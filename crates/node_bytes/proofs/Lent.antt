@@ -1,16 +1,14 @@
 -- Reads and stores in a lent buffer: their ways, and the laws of the bytes in the words of these.
 use mathlib.Core.Path.{_≡_, refl, sym, ap, _∙_}
-use mathlib.Core.Bool.{Bool, true, false, cond, _&&_, and-eq-true-iff, false≢true}
+use mathlib.Core.Bool.{Bool, true, false, cond, and-eq-true-iff}
 use mathlib.Core.List.{List, []}
 use Prim.Native.Nat.{ℕ, _≤_, _<_}
 use native.Mathlib.Omega.{arith}
-use borrow.Author.Tests.{ltb-true, ltb-false, eqb-true, eq-eqb, lt-ltb}
-use lib.ListN.{length, getD, set, replicate}
+use borrow.Author.Tests.{ltb-true, ltb-false, eqb-true}
+use lib.ListN.{length, set, replicate}
 use lib.Seq.{sets, length-sets, set-out, set-getD}
-use lib.Dec.{eqb, ltb}
-use Rattle.wire.specs.Delivered.{littleEndian, numberAt, AreBytes}
+use Rattle.wire.specs.Delivered.{littleEndian}
 use Rattle.node.specs.declared.slots.Slot.{Slot}
-use Rattle.node.specs.declared.Node.{Node}
 use Rattle.node.specs.Slots.{empty}
 use Rattle.node.specs.Nodes.{slotCount, fresh}
 use Rattle.node_bytes.specs.Layout.{slotStart, counterAt, nodeSize}
@@ -20,7 +18,7 @@ use Rattle.node_bytes.specs.Lent.{isNode, isSlot, readSlot, readCounter,
 use Rattle.node_bytes.specs.Widths.{SlotFits}
 use Rattle.node_bytes.specs.Laws.{SlotRead, CounterRead, SlotStored, CounterStored, StoredAsRead, LengthStays, FreshWritten}
 use Rattle.node_bytes.proofs.ByIndex.{decoded-slot, decoded-length, decoded-counter}
-use Rattle.node_bytes.proofs.NodeRoundTrip.{length-encoded, round-trip}
+use Rattle.node_bytes.proofs.NodeRoundTrip.{length-encoded}
 use Rattle.node_bytes.proofs.Stored.{decode-stored, decode-counted}
 use Rattle.node_bytes.proofs.Fitting.{slot-fits, round-trip-of-calls}
 

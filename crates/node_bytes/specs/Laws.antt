@@ -1,5 +1,5 @@
 -- THE LAWS OF THE BYTES, which the calls on a lent node cite.
-use Prim.Native.Nat.{ℕ, _<_}
+use Prim.Native.Nat.{ℕ}
 use mathlib.Core.Path.{_≡_}
 use mathlib.Core.Bool.{true}
 use mathlib.Core.List.{List}

@@ -11,7 +11,7 @@ use Rattle.node.specs.declared.slots.Slot.{Slot}
 use Rattle.node.specs.Slots.{padded, frames, empty}
 use Rattle.node.specs.Nodes.{fresh}
 use Rattle.node_bytes.specs.Layout.{slotSize, nodeSize}
-use Rattle.node_bytes.specs.Decoding.{slotFrom, slotAt, decode}
+use Rattle.node_bytes.specs.Decoding.{slotFrom, decode}
 use Rattle.node_bytes.specs.Encoding.{encodeSlot, encode}
 use Rattle.node_bytes.specs.Lent.{readSlot, readCounter, storeSlot, storeCounter, freshReply, freshIn}
 

@@ -1,7 +1,7 @@
 -- `find` meets its contract: no slot before the loop's i is in use for the stream.
 use borrow.Author.Needs.{needs}
 use native.Mathlib.Omega.{arith}
-use mathlib.Core.Path.{_≡_, sym, ap, _∙_}
+use mathlib.Core.Path.{sym, ap, _∙_}
 use Prim.Native.Nat.{_-_, _≤_}
 use denote.Ref.{now}
 use Rattle.node.specs.Slots.{empty, isOf}

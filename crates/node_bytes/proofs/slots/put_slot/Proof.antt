@@ -1,7 +1,6 @@
 -- `put_slot` meets its contract: four rows, one behind the other, and what they do to the node. That the slot's numbers fit is known of its type.
 use borrow.Author.Needs.{needs}
 use Rattle.node_bytes.specs.Widths.{SlotFits}
-use native.Mathlib.Omega.{arith}
 use mathlib.Core.Path.{_≡_, ap, _∙_}
 use lib.Seq.{sets}
 use denote.Ref.{now}

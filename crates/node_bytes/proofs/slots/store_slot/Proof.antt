@@ -1,8 +1,7 @@
 -- `store_slot` meets its contract: the slot that is there is set; setting one past the last changes no node.
 use borrow.Author.Needs.{needs}
-use mathlib.Core.Path.{sym, ap, _∙_}
+use mathlib.Core.Path.{sym, _∙_}
 use denote.Ref.{now}
-use Rattle.node_bytes.specs.Decoding.{decode}
 use Rattle.node_bytes.proofs.Lent.{is-slot, stores, stores-nothing, past-the-last}
 use Rattle.node_bytes.proofs.slots.store_slot.Statement.{statement}
 use Rattle.node_bytes.proofs.slots.store_slot.Tie as tie
