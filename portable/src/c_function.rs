@@ -2,7 +2,7 @@
 //! statement, in the same order. A value is whole before it is stored: where the parts of an aggregate, or the answer of
 //! a call, could be read while they are written, a local of the file's own (`t1`) stands between.
 
-use std::collections::BTreeSet;
+use std::collections::{BTreeMap, BTreeSet};
 
 use crate::c_types::CTypes;
 use crate::exports::last;
@@ -95,6 +95,40 @@ pub fn goes_on(body: &Body) -> bool {
     }
 }
 
+/// How often each local is named in these statements and within them.
+fn named(body: &[Statement], locals: usize) -> Vec<usize> {
+    let mut count = vec![0; locals];
+    for statement in body.iter().flat_map(|one| [one].into_iter().chain(one.inner().into_iter().flat_map(all))) {
+        let read = statement.operands().into_iter().filter_map(Operand::place);
+        for place in read.chain(statement.target()).chain(statement.address_of()) {
+            if let Some(count) = count.get_mut(place.local) {
+                *count += 1;
+            }
+        }
+    }
+    count
+}
+
+/// The locals that are first named where they are written whole, and then only in what follows in the same body, each with
+/// the place of that statement. Their address is not taken, so nothing of them is left when the body ends.
+fn born(function: &Function, taken: &BTreeSet<usize>) -> BTreeMap<usize, usize> {
+    let count = named(&function.body, function.locals.len());
+    let mut found = BTreeMap::new();
+    let mut bodies = vec![&function.body];
+    while let Some(body) = bodies.pop() {
+        for (number, statement) in body.iter().enumerate() {
+            bodies.extend(statement.inner());
+            let Some(Place { local, steps }) = statement.target() else { continue };
+            let own = *local > function.params && steps.is_empty() && !taken.contains(local);
+            let after = named(&body[number + 1..], function.locals.len());
+            if own && count.get(*local).is_some_and(|count| after[*local] + 1 == *count) {
+                found.insert(*local, statement.at);
+            }
+        }
+    }
+    found
+}
+
 pub struct CFunction<'a, 'b> {
     types: &'a mut CTypes<'b>,
     function: &'a Function,
@@ -104,6 +138,8 @@ pub struct CFunction<'a, 'b> {
     read: BTreeSet<usize>,
     /// The locals whose address is taken.
     taken: BTreeSet<usize>,
+    /// The locals that are declared where they are first written, and where that is.
+    born: BTreeMap<usize, usize>,
     /// The locals that the text names.
     used: BTreeSet<usize>,
     lines: Vec<String>,
@@ -122,7 +158,8 @@ impl<'a, 'b> CFunction<'a, 'b> {
         let names = exported.then(|| header.functions.get(last(&function.name)).map_or(&[][..], |names| names));
         let statements = all(&function.body);
         let addresses = statements.iter().filter_map(|statement| statement.address_of());
-        let taken = addresses.clone().filter(|place| !place.derefs()).map(|place| place.local).collect();
+        let taken: BTreeSet<usize> =
+            addresses.clone().filter(|place| !place.derefs()).map(|place| place.local).collect();
         let operands = statements.iter().flat_map(|statement| statement.operands()).filter_map(Operand::place);
         let through = statements.iter().filter_map(|statement| statement.target()).filter(|place| place.derefs());
         let read = addresses.chain(operands).chain(through).map(|place| place.local).chain([0]).collect();
@@ -130,6 +167,7 @@ impl<'a, 'b> CFunction<'a, 'b> {
             types,
             function,
             names,
+            born: born(function, &taken),
             read,
             taken,
             used: BTreeSet::new(),
@@ -221,6 +259,7 @@ impl<'a, 'b> CFunction<'a, 'b> {
             _ => (ty.clone(), Form::Value),
         };
         let c = self.types.of(&element, self.at)?;
+        self.types.rely_on(&ty);
         let address = address.whole();
         let address = if c == "uint8_t" { address } else { format!("({c} *)(void *){address}") };
         Ok(match form {
@@ -288,6 +327,33 @@ impl<'a, 'b> CFunction<'a, 'b> {
         Ok(())
     }
 
+    fn is_born(&self, place: &Place) -> bool {
+        place.steps.is_empty() && self.born.get(&place.local) == Some(&self.at)
+    }
+
+    /// The place that a value is stored into, declared first where it is born here.
+    fn target(&mut self, place: &Place) -> Answer<Spot> {
+        let spot = self.spot(place)?;
+        if self.is_born(place) {
+            let line = format!("{};", self.types.declare(&spot.ty, &spot.whole(), self.at)?);
+            self.say(line);
+        }
+        Ok(spot)
+    }
+
+    /// Stores a value into a place, and declares it with that value where it is born here.
+    fn store_at(&mut self, place: &Place, value: &Spot) -> Answer<()> {
+        let spot = self.spot(place)?;
+        if self.is_born(place) && value.form == Form::Value {
+            self.same(&spot.ty, &value.ty)?;
+            let line = format!("{} = {};", self.types.declare(&spot.ty, &spot.whole(), self.at)?, value.whole());
+            self.say(line);
+            return Ok(());
+        }
+        let spot = self.target(place)?;
+        self.store(&spot, value)
+    }
+
     /// Whether what is read at one place may be written at the other.
     fn may_meet(&self, read: &Place, written: &Place) -> bool {
         let exposed = |place: &Place| place.derefs() || self.taken.contains(&place.local);
@@ -316,7 +382,6 @@ impl<'a, 'b> CFunction<'a, 'b> {
             }
             _ => {}
         }
-        let spot = self.spot(to)?;
         let from = match value {
             Value::Use(operand) => {
                 let from = self.operand(operand)?;
@@ -349,7 +414,7 @@ impl<'a, 'b> CFunction<'a, 'b> {
             Value::AddrOf(place) => Spot::new(self.address(place)?, Ty::Ptr),
             Value::Aggregate(_) | Value::Repeat(..) => unreachable!("written above"),
         };
-        self.store(&spot, &from)
+        self.store_at(to, &from)
     }
 
     fn two(&mut self, op: Op, a: &Operand, b: &Operand) -> Answer<Spot> {
@@ -395,20 +460,19 @@ impl<'a, 'b> CFunction<'a, 'b> {
 
     fn aggregate(&mut self, to: &Place, parts: &[Operand]) -> Answer<()> {
         let named = self.types.program.type_at(self.function, to, self.at)?;
-        let spot = self.spot(to)?;
         if let (Ty::Named(name), [part]) = (&named, parts) {
             return match (self.types.program.declared(name, self.at)?, part) {
                 (Declared::Enum(count), Operand::Int(8, tag)) if (*tag as usize) < *count => {
-                    self.say(format!("{} = {tag}u;", spot.whole()));
-                    Ok(())
+                    self.store_at(to, &Spot::new(format!("{tag}u"), named.clone()))
                 }
                 (Declared::Struct(fields), part) if fields.len() == 1 => {
                     let part = self.operand(part)?;
-                    self.store(&spot, &part)
+                    self.store_at(to, &part)
                 }
                 _ => self.unknown(format!("an aggregate of {name}")),
             };
         }
+        let spot = self.target(to)?;
         let meets = parts.iter().filter_map(Operand::place).any(|read| self.may_meet(read, to));
         let into = if meets { self.temporary(&spot.ty)? } else { spot.clone() };
         match (&named, &spot.ty) {
@@ -449,7 +513,7 @@ impl<'a, 'b> CFunction<'a, 'b> {
     }
 
     fn repeat(&mut self, to: &Place, of: &Operand, count: u64) -> Answer<()> {
-        let spot = self.spot(to)?;
+        let spot = self.target(to)?;
         let mut value = self.operand(of)?;
         let element = match &spot.ty {
             Ty::Array(element, length) if *length == count => (**element).clone(),
@@ -510,8 +574,7 @@ impl<'a, 'b> CFunction<'a, 'b> {
         } else {
             call
         };
-        let to = self.spot(to)?;
-        self.store(&to, &call)
+        self.store_at(to, &call)
     }
 
     // ---- statements
@@ -766,7 +829,8 @@ impl<'a, 'b> CFunction<'a, 'b> {
         let (signature, mut head) = self.signature()?;
         for local in self.used.clone() {
             let ty = self.shape(&self.function.locals[local])?;
-            if !(1..=self.function.params).contains(&local) && ty != Ty::Unit {
+            let declared = (1..=self.function.params).contains(&local) || self.born.contains_key(&local);
+            if !declared && ty != Ty::Unit {
                 head.push(format!("{};", self.types.declare(&ty, &format!("v{local}"), self.at)?));
             }
         }

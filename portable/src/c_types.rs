@@ -1,6 +1,7 @@
 //! C's types for the program's: numbers are `uintN_t`, an enum is its tag, a struct of one field is that field, and an array
 //! is a struct that holds it, so that it can be passed and answered. In a struct of the header an array is a C array.
 
+use std::collections::BTreeSet;
 use std::fmt::Write;
 
 use crate::exports::Exports;
@@ -17,6 +18,8 @@ pub struct CTypes<'a> {
     pub exports: Exports<'a>,
     /// The structs and arrays that are used, each after what it holds.
     used: Vec<Ty>,
+    /// Those that stand behind an address.
+    behind: BTreeSet<Ty>,
     slices: bool,
 }
 
@@ -29,7 +32,7 @@ pub struct CField<'a> {
 
 impl<'a> CTypes<'a> {
     pub fn new(program: &'a Program, header: &'a Header, exports: Exports<'a>) -> CTypes<'a> {
-        CTypes { program, header, exports, used: Vec::new(), slices: false }
+        CTypes { program, header, exports, used: Vec::new(), behind: BTreeSet::new(), slices: false }
     }
 
     pub fn c_name(name: &str) -> String {
@@ -92,6 +95,16 @@ impl<'a> CTypes<'a> {
         })
     }
 
+    /// A value of this shape stands behind an address, so its layout counts.
+    pub fn rely_on(&mut self, ty: &Ty) {
+        self.behind.insert(ty.clone());
+    }
+
+    /// Whether the layout of a struct or an array counts: it is the header's, or stands behind an address.
+    fn counts(&self, ty: &Ty) -> bool {
+        matches!(ty, Ty::Named(name) if self.header_name(name).is_some()) || self.behind.contains(ty)
+    }
+
     fn need(&mut self, ty: &Ty, at: usize) -> Answer<()> {
         if self.used.contains(ty) {
             return Ok(());
@@ -144,26 +157,26 @@ impl<'a> CTypes<'a> {
         Ok(out)
     }
 
-    /// The layout that the program counts on, asserted: of every struct and array that is the same on every chip.
+    /// The layout that the program counts on, asserted, of what is the same on every chip.
     pub fn assertions(&mut self) -> Answer<String> {
         let mut facts = vec![
-            ("byte_of_8_bits".to_string(), "CHAR_BIT == 8".to_string()),
-            ("bool_of_a_byte".to_string(), "sizeof(bool) == 1".to_string()),
-            ("size_of_64_bits_at_most".to_string(), "sizeof(size_t) <= sizeof(uint64_t)".to_string()),
+            ("byte".to_string(), "CHAR_BIT == 8".to_string()),
+            ("bool".to_string(), "sizeof(bool) == 1".to_string()),
+            ("size_t".to_string(), "sizeof(size_t) <= sizeof(uint64_t)".to_string()),
         ];
         for ty in self.used.clone() {
-            let Some((size, _)) = self.program.layout(&ty, 0)? else { continue };
+            let Some((size, _)) = self.program.layout(&ty, 0)?.filter(|_| self.counts(&ty)) else { continue };
             let c = self.of(&ty, 0)?;
             let short = c.trim_start_matches("struct ").to_string();
-            facts.push((format!("{short}_size"), format!("sizeof({c}) == {size}")));
+            facts.push((short.clone(), format!("sizeof({c}) == {size}")));
             let Ty::Named(name) = &ty else { continue };
             let (offsets, ..) = self.program.offsets(name, 0)?.expect("it has a layout");
             let fields = self.program.fields(&ty, 0)?.unwrap_or_default();
             for (number, (offset, field)) in offsets.iter().zip(fields).enumerate() {
                 let (size, _) = self.program.layout(field, 0)?.expect("it has a layout");
                 let name = self.field(name, number, 0)?.name;
-                facts.push((format!("{short}_{name}_at"), format!("offsetof({c}, {name}) == {offset}")));
-                facts.push((format!("{short}_{name}_size"), format!("sizeof((({c} *)0)->{name}) == {size}")));
+                let holds = format!("offsetof({c}, {name}) == {offset} && sizeof((({c} *)0)->{name}) == {size}");
+                facts.push((format!("{short}_{name}"), holds));
             }
         }
         let shout = PREFIX.to_uppercase();
