@@ -207,12 +207,12 @@ impl<'a, 'b> CFunction<'a, 'b> {
     fn root(&self, local: usize) -> String {
         match self.names {
             Some(names) if (1..=self.function.params).contains(&local) => {
-                // Slices take two names each, and are put together in a local of their own.
-                let slices = |ty: &Ty| matches!(ty, Ty::Slice(..));
-                if slices(&self.function.locals[local]) {
+                // What is lent has a local of its own; a slice takes two names.
+                if matches!(self.function.locals[local], Ty::Slice(..) | Ty::Ref(..)) {
                     return format!("v{local}");
                 }
-                let before = self.function.locals[1..local].iter().filter(|ty| slices(ty)).count();
+                let slices = |ty: &&Ty| matches!(ty, Ty::Slice(..));
+                let before = self.function.locals[1..local].iter().filter(slices).count();
                 names.get(local - 1 + before).cloned().unwrap_or_else(|| format!("v{local}"))
             }
             _ => format!("v{local}"),
@@ -790,7 +790,19 @@ impl<'a, 'b> CFunction<'a, 'b> {
                     }
                     continue;
                 }
-                (Ty::Ptr | Ty::Ref(..) | Ty::Array(..) | Ty::Int(64), _) => {
+                (Ty::Ref(mutable, to), _) => {
+                    let address = named()?;
+                    let of = if let Ty::Array(of, _) = &**to { of } else { to };
+                    let c = self.types.of(of, at)?;
+                    params.push(format!("{}{c} *{address}", if *mutable { "" } else { "const " }));
+                    if self.used.contains(&local) {
+                        head.push(format!("uint8_t *v{local} = (uint8_t *){address};"));
+                    } else {
+                        head.push(format!("(void){address};"));
+                    }
+                    continue;
+                }
+                (Ty::Ptr | Ty::Array(..) | Ty::Int(64), _) => {
                     return unknown(at, format!("{ty:?} as a parameter from C"))
                 }
                 _ => {

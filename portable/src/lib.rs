@@ -8,6 +8,7 @@ pub mod exports;
 pub mod head;
 pub mod header;
 pub mod mir;
+pub mod mutants;
 pub mod shape;
 pub mod term;
 pub mod typing;
