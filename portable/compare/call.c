@@ -14,6 +14,9 @@ uint64_t random_step(uint64_t *state)
 static uint32_t below(uint64_t *state, uint32_t bound) { return (uint32_t)(random_step(state) % bound); }
 static uint32_t any(uint64_t *state) { return (uint32_t)random_step(state); }
 
+/* The seeds from here on are payloads of the same bytes, but for one of the first eight. */
+#define ALIKE UINT32_C(1000000)
+
 #define PICK(state, list) (list)[below(state, sizeof(list) / sizeof *(list))]
 
 static uint32_t stream(uint64_t *state)
@@ -51,7 +54,8 @@ static void settings(struct call *call, uint64_t *state)
         call->s[0] = call->class_ ? 8000 - below(state, 2) : 0;
         call->s[1] = call->class_ == 2 ? 8000 - below(state, 2) : 0;
         call->s[2] = call->class_ == 2 ? 4000 - below(state, 2) : 0;
-        call->s[3] = call->class_ == 2 ? call->s[1] + call->s[2] + below(state, 3) : call->class_ ? 16000 - below(state, 2) : 0;
+        call->s[3] = call->class_ ? 15999 + below(state, 3) : 0;
+        if (call->class_ == 2 && below(state, 2)) call->s[3] = call->s[1] + call->s[2] + below(state, 3);
     }
     if (below(state, 6) == 0) { /* past them */
         switch (below(state, 4)) {
@@ -89,8 +93,8 @@ void random_call(struct call *call, uint64_t *state, const struct kosmydore_node
     call->payload_seed = any(state);
     call->output_seed = any(state);
     call->payload_length = (uint16_t)(below(state, 12) ? below(state, 9) : below(state, 600));
-    if (below(state, 2)) { /* the same bytes again, or one more or less of them */
-        call->payload_seed = 7;
+    if (below(state, 2)) { /* the same bytes again, or one of them another, or one more of them */
+        call->payload_seed = ALIKE + (below(state, 3) ? 0 : below(state, 9));
         call->payload_length = (uint16_t)(7 + below(state, 4) / 3);
     }
     call->output_length = room(state, call->kind == HEAR ? 16 : call->kind == TICK ? 512 : 8);
@@ -158,8 +162,10 @@ static void fill(uint8_t *to, size_t count, uint32_t seed)
 void lend(struct bench *bench, const struct call *call)
 {
     fill(bench->output, sizeof bench->output, call->output_seed);
-    /* what a payload holds is where it ends: past it the room ends too */
-    fill(bench->payload + ROOM - call->payload_length, call->payload_length, call->payload_seed);
+    uint8_t *payload = bench->payload + ROOM - call->payload_length; /* where it ends, the room ends too */
+    uint32_t other = call->payload_seed - ALIKE;
+    fill(payload, call->payload_length, other < 9 ? ALIKE : call->payload_seed);
+    if (0 < other && other < 9 && other <= call->payload_length) payload[other - 1] ^= 16;
 }
 
 void wild(struct kosmydore_node *node, uint32_t seed)
@@ -205,6 +211,7 @@ void due(struct kosmydore_node *node, uint32_t seed)
         int limit;
         uint32_t high = (uint32_t)(seed % 3 == 0 ? UINT32_C(134217727) - UINT32_C(65535) : 0);
         s->stream = high + ((uint32_t)i * 37 + (uint32_t)(r % 3) * 1000) % 60000;
+        if (high && i == 31) s->stream = UINT32_C(134217727);
         s->settings.role = (r >> 8) % 16 == 0;
         s->settings.class_ = (uint8_t)((r >> 12) % 16 ? 1 + (seed >> 4) % 2 : 0);
         s->settings.data_reach = 3;

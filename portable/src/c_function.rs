@@ -365,12 +365,19 @@ impl<'a, 'b> CFunction<'a, 'b> {
         !self.read.contains(&place.local)
     }
 
+    /// A store into what is never read is made, so that all of it is known, and then left out: C compilers warn of it.
     fn assign(&mut self, to: &Place, value: &Value) -> Answer<()> {
+        let (lines, used) = (self.lines.len(), self.used.clone());
+        self.assign_read(to, value)?;
         if self.unread(to) {
-            self.shape(&self.types.program.type_at(self.function, to, self.at)?)?;
+            self.lines.truncate(lines);
+            self.used = used;
             self.say(format!("/* v{} is not read */", to.local));
-            return Ok(());
         }
+        Ok(())
+    }
+
+    fn assign_read(&mut self, to: &Place, value: &Value) -> Answer<()> {
         match value {
             Value::Aggregate(parts) => return self.aggregate(to, parts),
             Value::Repeat(of, count) => return self.repeat(to, of, *count),
@@ -829,6 +836,9 @@ impl<'a, 'b> CFunction<'a, 'b> {
     }
 
     pub fn text(mut self) -> Answer<String> {
+        for ty in &self.function.locals {
+            self.shape(ty)?;
+        }
         self.types.program.addresses_are_typed(self.function)?;
         if goes_on(&self.function.body) {
             return unknown(self.function.at, "a function that ends without a return");
