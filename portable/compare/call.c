@@ -76,6 +76,16 @@ static uint16_t room(uint64_t *state, uint16_t least)
     return r < 7 ? (uint16_t)(least + below(state, 8)) : r == 7 ? (uint16_t)below(state, 700) : PICK(state, edges);
 }
 
+/* A slot of the node, with some tries one of this role. */
+static const struct kosmydore_slot *some_slot(uint64_t *state, const struct kosmydore_node *node, uint8_t role)
+{
+    const struct kosmydore_slot *slot = node->slots;
+    for (int tries = 0; tries < 6 && !(tries && slot->used && slot->settings.role == role); tries++) {
+        slot = &node->slots[below(state, KOSMYDORE_SLOTS)];
+    }
+    return slot;
+}
+
 void random_call(struct call *call, uint64_t *state, const struct kosmydore_node *nodes)
 {
     static const uint8_t mix[] = {HEAR, HEAR, HEAR, HEAR, HEAR, TICK, TICK, TICK, TICK, REQUEST, REQUEST,
@@ -86,8 +96,10 @@ void random_call(struct call *call, uint64_t *state, const struct kosmydore_node
     call->node = (uint8_t)below(state, NODES);
     settings(call, state);
     call->number = call->kind == WILD || call->kind == DUE ? any(state) : stream(state);
-    if (call->kind <= REQUEST && below(state, 3)) { /* mostly one that the node has */
-        call->number = nodes[call->node].slots[below(state, KOSMYDORE_SLOTS)].stream;
+    const struct kosmydore_slot *slot = some_slot(state, &nodes[call->node], call->kind == REQUEST);
+    bool own = below(state, 4) != 0;
+    if (own && (call->kind == HEAR || call->kind == REQUEST || (call->kind == SET_UP && below(state, 3) == 0))) {
+        call->number = slot->stream; /* mostly one that the node has */
     }
     call->code = below(state, 3) ? below(state, 5) : any(state);
     call->payload_seed = any(state);
@@ -95,11 +107,12 @@ void random_call(struct call *call, uint64_t *state, const struct kosmydore_node
     call->payload_length = (uint16_t)(below(state, 12) ? below(state, 9) : below(state, 600));
     if (below(state, 2)) { /* the same bytes again, or one of them another, or one more of them */
         call->payload_seed = ALIKE + (below(state, 3) ? 0 : below(state, 9));
-        call->payload_length = (uint16_t)(7 + below(state, 4) / 3);
+        call->payload_length = (uint16_t)(7 + below(state, 2));
     }
     call->output_length = room(state, call->kind == HEAR ? 16 : call->kind == TICK ? 512 : 8);
     if (call->kind == HEAR) {
         call->code = below(state, 4);
+        if (own && below(state, 4)) call->code = slot->settings.class_ == 2 ? below(state, 3) : slot->settings.class_ ? 0 : 3;
         call->number = below(state, 30) ? call->number * 4 + call->code : any(state);
         if ((call->code == 1 || call->code == 2) && below(state, 8)) call->payload_length = 0;
         call->dlc = (uint8_t)(below(state, 20) ? call->payload_length : below(state, 2) ? below(state, 17) : any(state));
@@ -183,8 +196,8 @@ void wild(struct kosmydore_node *node, uint32_t seed)
         s->settings.confirm_delay = (uint16_t)(far ? r >> 5 : (r >> 5) % 30);
         s->settings.abort_reach = (uint16_t)(far ? r >> 10 : (r >> 10) % 30);
         s->settings.deliver_delay = (uint16_t)(far ? r >> 15 : (r >> 15) % 30);
-        s->settings.role = (uint8_t)(far ? r >> 20 : (r >> 20) & 1);
-        s->settings.class_ = (uint8_t)(far ? r >> 30 : (r >> 30) % 3);
+        s->settings.role = (uint8_t)(far ? (r >> 41) % 2 ? r >> 20 : (r >> 20) % 4 : (r >> 20) & 1);
+        s->settings.class_ = (uint8_t)(far ? (r >> 40) % 2 ? r >> 30 : (r >> 30) % 6 : (r >> 30) % 3);
         q = random_step(&x);
         s->message.stamp = (uint16_t)(far ? q : q % 40);
         s->message.length = (uint8_t)(far && q >> 60 == 0 ? q >> 16 : (q >> 16) % 11);
@@ -227,5 +240,14 @@ void due(struct kosmydore_node *node, uint32_t seed)
                 : s->settings.class_ == 2 && !s->message.confirmed ? s->settings.confirm_delay
                                                                    : s->settings.deliver_delay;
         s->message.stamp = (uint16_t)(node->counter + 1 - limit - ((r >> 20) % 8 != 0));
+        if (seed % 5 == 0) { /* one frame is pending, with the highest identifier of all */
+            s->pending.payload = i == 31;
+            s->pending.confirmation = s->pending.abort = false;
+            if (i == 31) {
+                s->stream = UINT32_C(134217727);
+                s->settings.class_ = 0;
+                s->used = true;
+            }
+        }
     }
 }

@@ -9,6 +9,9 @@ use crate::exports::last;
 use crate::mir::{all, Body, Declared, Does, Function, Op, Operand, Place, Statement, Step, Ty, Value};
 use crate::unknown::{unknown, Answer};
 
+/// How long a line of parameters may be.
+const WIDTH: usize = 120;
+
 /// How a place is written in C.
 #[derive(Clone)]
 struct Spot {
@@ -754,7 +757,9 @@ impl<'a, 'b> CFunction<'a, 'b> {
                 self.say("break;");
                 return Ok(());
             }
-            Around::BlockOfLoop(_) if breaks == Some(position + 1) && matches!(around[position + 1], Around::Loop(_)) => {
+            Around::BlockOfLoop(_)
+                if breaks == Some(position + 1) && matches!(around[position + 1], Around::Loop(_)) =>
+            {
                 self.say("break;");
                 return Ok(());
             }
@@ -824,15 +829,30 @@ impl<'a, 'b> CFunction<'a, 'b> {
         if names.next().is_some() {
             return unknown(at, "fewer parameters than the header declares");
         }
-        if self.names.is_some() && matches!(answer, Ty::Ptr | Ty::Ref(..) | Ty::Slice(..) | Ty::Array(..) | Ty::Int(64)) {
+        if self.names.is_some() && matches!(answer, Ty::Ptr | Ty::Ref(..) | Ty::Slice(..) | Ty::Array(..) | Ty::Int(64))
+        {
             return unknown(at, format!("{answer:?} as an answer to C"));
         }
         let (kind, name) = match self.names {
             Some(_) => ("", last(&self.function.name).to_string()),
             None => ("static ", CTypes::c_name(&self.function.name)),
         };
-        let params = if params.is_empty() { "void".to_string() } else { params.join(", ") };
-        Ok((format!("{kind}{}", self.types.declare(&answer, &format!("{name}({params})"), at)?), head))
+        let mut line = format!("{kind}{}", self.types.declare(&answer, &format!("{name}("), at)?);
+        let mut signature = String::new();
+        if params.is_empty() {
+            line += "void";
+        }
+        let count = params.len();
+        for (number, param) in params.into_iter().enumerate() {
+            let end = if number + 1 < count { "," } else { "" };
+            if line.len() + param.len() + 3 > WIDTH {
+                signature += line.trim_end();
+                signature += "\n";
+                line = " ".repeat(4);
+            }
+            line += &format!("{param}{end} ");
+        }
+        Ok((format!("{signature}{})", line.trim_end()), head))
     }
 
     pub fn text(mut self) -> Answer<String> {

@@ -159,33 +159,29 @@ impl<'a> CTypes<'a> {
 
     /// The layout that the program counts on, asserted, of what is the same on every chip.
     pub fn assertions(&mut self) -> Answer<String> {
-        let mut facts = vec![
-            ("byte".to_string(), "CHAR_BIT == 8".to_string()),
-            ("bool".to_string(), "sizeof(bool) == 1".to_string()),
-            ("size_t".to_string(), "sizeof(size_t) <= sizeof(uint64_t)".to_string()),
-        ];
+        let macros = "#define KD_ASSERT(name, holds) typedef char kd_assert_##name[(holds) ? 1 : -1]
+#define KD_SIZE(type, size) KD_ASSERT(type, sizeof(struct type) == (size))
+#define KD_FIELD(type, field, at, size) \\
+    KD_ASSERT(type##_##field, offsetof(struct type, field) == (at) && sizeof(((struct type *)0)->field) == (size))
+KD_ASSERT(byte, CHAR_BIT == 8);
+KD_ASSERT(bool, sizeof(bool) == 1);
+KD_ASSERT(size_t, sizeof(size_t) <= sizeof(uint64_t));
+";
+        let says = "/* The layout that the program counts on. Where one of these does not hold, the file is not compiled. */\n";
+        let mut out = format!("{says}{}", macros.replace("kd_", PREFIX).replace("KD_", &PREFIX.to_uppercase()));
+        let shout = PREFIX.to_uppercase();
         for ty in self.used.clone() {
             let Some((size, _)) = self.program.layout(&ty, 0)?.filter(|_| self.counts(&ty)) else { continue };
-            let c = self.of(&ty, 0)?;
-            let short = c.trim_start_matches("struct ").to_string();
-            facts.push((short.clone(), format!("sizeof({c}) == {size}")));
+            let c = self.of(&ty, 0)?.trim_start_matches("struct ").to_string();
+            writeln!(out, "{shout}SIZE({c}, {size});").expect("a string");
             let Ty::Named(name) = &ty else { continue };
             let (offsets, ..) = self.program.offsets(name, 0)?.expect("it has a layout");
             let fields = self.program.fields(&ty, 0)?.unwrap_or_default();
             for (number, (offset, field)) in offsets.iter().zip(fields).enumerate() {
                 let (size, _) = self.program.layout(field, 0)?.expect("it has a layout");
                 let name = self.field(name, number, 0)?.name;
-                let holds = format!("offsetof({c}, {name}) == {offset} && sizeof((({c} *)0)->{name}) == {size}");
-                facts.push((format!("{short}_{name}"), holds));
+                writeln!(out, "{shout}FIELD({c}, {name}, {offset}, {size});").expect("a string");
             }
-        }
-        let shout = PREFIX.to_uppercase();
-        let mut out = format!(
-            "/* The layout that the program counts on. Where one of these does not hold, the file is not compiled. */\n\
-             #define {shout}ASSERT(name, holds) typedef char {PREFIX}assert_##name[(holds) ? 1 : -1]\n"
-        );
-        for (name, holds) in facts {
-            writeln!(out, "{shout}ASSERT({name}, {holds});").expect("a string");
         }
         Ok(out)
     }

@@ -141,7 +141,11 @@ pub const REFUSED: &[(&str, &str, &str)] = &[
     ("a tag that is not there", "(aggregate (lcons (int 8 12) lnil))", "(aggregate (lcons (int 8 13) lnil))"),
     ("an exit too far", "(exit 1)", "(exit 7)"),
     ("a function that is not there", "(fnRef \"node::slots::pad\")", "(fnRef \"node::slots::pat\")"),
-    ("a function that calls itself", "(fnRef \"wire::delivered::put_record\")", "(fnRef \"wire::delivered::write_record\")"),
+    (
+        "a function that calls itself",
+        "(fnRef \"wire::delivered::put_record\")",
+        "(fnRef \"wire::delivered::write_record\")",
+    ),
     ("a local that is not there", "(place 3 lnil)", "(place 99 lnil)"),
     ("one key twice", "(arm (lcons 1 lnil)", "(arm (lcons 0 lnil)"),
     ("an address used at another type", "(deref (tyInt 8))", "(deref (tyInt 16))"),

@@ -43,14 +43,19 @@ fn assigning(local: usize, value: &str) -> String {
 #[test]
 fn what_is_known_is_translated() {
     let c = said(&program(BACK)).expect("C");
-    assert!(c.contains("uint32_t kosmydore_one(uint32_t x)\n{\n    uint32_t v0;\n\n    v0 = x;\n    return v0;\n}\n"), "{c}");
+    assert!(
+        c.contains("uint32_t kosmydore_one(uint32_t x)\n{\n    uint32_t v0;\n\n    v0 = x;\n    return v0;\n}\n"),
+        "{c}"
+    );
 }
 
 #[test]
 fn the_place_is_named() {
     let text = program("(seq (forever skip) return)");
     let column = text.lines().nth(1).and_then(|line| line.find("(forever")).expect("it is there") + 1;
-    let line = format!("one.mir:2:{column}: function firmware::kosmydore_one: not known: the statement (forever ..) with 1 parts");
+    let line = format!(
+        "one.mir:2:{column}: function firmware::kosmydore_one: not known: the statement (forever ..) with 1 parts"
+    );
     assert_eq!(said(&text), Err(line));
 }
 
@@ -71,7 +76,10 @@ fn statements() {
     refused("(if (copy (place 1 lnil)) return return)", "an if on Int(32)");
     refused("(switch (copy (place 3 lnil)) (arm (lcons 0 lnil) return noDefault))", "a switch on Bool");
     refused("(switch (copy (place 2 lnil)) (arm (lcons 65536 lnil) return noDefault))", "the key 65536");
-    refused("(switch (copy (place 1 lnil)) (arm (lcons 1 lnil) return (arm (lcons 1 lnil) return noDefault)))", "the key 1");
+    refused(
+        "(switch (copy (place 1 lnil)) (arm (lcons 1 lnil) return (arm (lcons 1 lnil) return noDefault)))",
+        "the key 1",
+    );
     refused("(switch (copy (place 1 lnil)) (arm (lcons 0 lnil) return (guard return)))", "the arm (guard ..)");
     refused("(switch (copy (place 1 lnil)) (default return))", "a switch without arms");
 }
@@ -90,7 +98,12 @@ fn values() {
     refused(&assigning(0, "(op2 (add unsigned) (int 32 1) (int 16 1))"), "Int(16) where Int(32) is due");
     refused(&assigning(3, "(seq)"), "the value (seq ..)");
     refused(&assigning(5, "(op2 (add unsigned) true false)"), "Add of Bool");
-    refused(&format!("(seq (assign (place 3 lnil) (op2 (lt unsigned) true false)) (if (copy (place 3 lnil)) {BACK} {BACK}))"), "Lt of Bool");
+    refused(
+        &format!(
+            "(seq (assign (place 3 lnil) (op2 (lt unsigned) true false)) (if (copy (place 3 lnil)) {BACK} {BACK}))"
+        ),
+        "Lt of Bool",
+    );
     refused(&assigning(0, "(op1 leadingZeros (int 32 1))"), "the operation leadingZeros");
     refused(&assigning(0, "(op1 (cast signed unsigned 32) (int 32 1))"), "the cast from signed to unsigned");
     refused(&assigning(0, "(aggregate (lcons (int 32 1) lnil))"), "an aggregate of 1 parts for Int(32)");
@@ -98,14 +111,19 @@ fn values() {
     refused(&assigning(0, "(rvOpd (copy (place 9 lnil)))"), "the local 9");
     refused(&assigning(0, "(rvOpd (copy (place 1 (lcons (field 0) lnil))))"), "Field(0)");
     refused(&assigning(0, "(rvOpd (copy (place 1 (lcons (index 0) lnil))))"), "the step (index ..)");
-    refused(&assigning(0, "(rvOpd (copy (place 1 (lcons (deref (tyInt 32)) lnil))))"), "Int(32) where an address is due");
+    refused(
+        &assigning(0, "(rvOpd (copy (place 1 (lcons (deref (tyInt 32)) lnil))))"),
+        "Int(32) where an address is due",
+    );
 }
 
 #[test]
 fn addresses() {
     let through = |ty: &str, to: &str| {
         let read = format!("(assign (place 0 lnil) (rvOpd (copy (place 4 (lcons (deref {ty}) lnil)))))");
-        format!("(seq (assign (place 5 lnil) (rvOpd (int 32 7))) (seq (assign (place 4 lnil) {to}) (seq {read} return)))")
+        format!(
+            "(seq (assign (place 5 lnil) (rvOpd (int 32 7))) (seq (assign (place 4 lnil) {to}) (seq {read} return)))"
+        )
     };
     let whole = "(addrOf (place 5 lnil))";
     assert!(said(&program(&through("(tyInt 32)", whole))).is_ok());
@@ -180,5 +198,8 @@ fn the_header_is_narrowed() {
     let text = "/* Head. */\n\n/* Keeps. */\nint kept(int a);\n\n/* Goes. */\nint left(int a,\n         int b);\n\nstruct s {\n    int a;\n};\n";
     let narrowed = header::narrowed(text, &["kept"]).expect("a header");
     assert_eq!(narrowed, "/* Head. */\n\n/* Keeps. */\nint kept(int a);\n\nstruct s {\n    int a;\n};\n");
-    assert!(header::narrowed(text, &["kept", "more"]).expect_err("no declaration").what.contains("no declaration of more"));
+    assert!(header::narrowed(text, &["kept", "more"])
+        .expect_err("no declaration")
+        .what
+        .contains("no declaration of more"));
 }

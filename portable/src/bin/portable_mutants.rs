@@ -17,7 +17,7 @@ use portable::{c_file, header, mir};
 const PATIENCE: Duration = Duration::from_secs(20);
 
 /// A change that is not found at first is tried with so many times the calls.
-const AGAIN: u64 = 20;
+const AGAIN: u64 = 10;
 
 struct Trial {
     work: PathBuf,
@@ -83,20 +83,40 @@ fn chosen(mut changes: Vec<Change>, count: usize, seed: u64) -> Vec<Change> {
     }
 }
 
-/// The function that a place of the C file stands in, the line before the change and after it.
-fn described(text: &str, change: &Change) -> String {
+/// A text without the numbers that follow a word, so that a name for it outlives a local more or less.
+fn unnumbered(text: &str, word: &str) -> String {
+    let mut parts = text.split(word);
+    let mut out = parts.next().unwrap_or("").to_string();
+    for part in parts {
+        let named = out.ends_with(|last: char| last.is_ascii_alphanumeric() || last == '_');
+        out += word;
+        out += if named { part } else { part.trim_start_matches(|first: char| first.is_ascii_digit()) };
+    }
+    out
+}
+
+/// How a change of the C file is named: its function, the line before the change and after it.
+fn in_c(text: &str, change: &Change) -> String {
     let from = text[..change.from].rfind('\n').map_or(0, |at| at + 1);
     let to = text[change.to..].find('\n').map_or(text.len(), |at| change.to + at);
     let title = text[..from].rfind("\n/* ").map_or("", |at| text[at + 4..].split(" */").next().unwrap_or(""));
     let new = format!("{}{}{}", &text[from..change.from], change.new, &text[change.to..to]);
-    format!("{title} | {} | {}", text[from..to].trim(), new.trim())
+    format!("{title} | {} | {}", unnumbered(text[from..to].trim(), "v"), unnumbered(new.trim(), "v"))
 }
 
-/// The same of the program, which is one line: what stands around the change.
-fn described_in_mir(text: &str, change: &Change) -> String {
+/// How a change of the program is named: its function, the statement before the change and after it.
+fn in_mir(text: &str, change: &Change) -> String {
     let title = text[..change.from].rfind("(fn-def \"").map_or("", |at| text[at + 9..].split('"').next().unwrap_or(""));
-    let (from, to) = (change.from.saturating_sub(60), (change.to + 60).min(text.len()));
-    format!("{title} | {} | {}", &text[from..to], change.new)
+    let begins = ["(assign ", "(exit ", "(if ", "(call ", "(switch "];
+    let from = begins.iter().filter_map(|word| text[..change.to].rfind(word)).max().unwrap_or(0);
+    let mut depth = 0;
+    let ends = text[from..].bytes().position(|byte| {
+        depth += i32::from(byte == b'(') - i32::from(byte == b')');
+        depth == 0
+    });
+    let to = ends.map_or(text.len(), |length| from + length + 1);
+    let new = format!("{}{}{}", &text[from..change.from], change.new, &text[change.to..to]);
+    format!("{title} | {} | {}", unnumbered(&text[from..to], "place "), unnumbered(&new, "place "))
 }
 
 fn run(words: &[String]) -> Result<bool, String> {
@@ -113,7 +133,15 @@ fn run(words: &[String]) -> Result<bool, String> {
     let trial = Trial { work: work.into(), header, names, link, seed, calls };
     let text = read(program)?;
     let unseen_text = read(unseen)?;
-    let reasons: BTreeMap<&str, &str> = unseen_text.lines().filter_map(|line| line.split_once(" || ")).collect();
+    // Lines with nothing else are reasons; below each stand the changes that it holds for.
+    let mut reasons: BTreeMap<&str, &str> = BTreeMap::new();
+    let mut reason = "";
+    for line in unseen_text.lines() {
+        match line.split_once(" | ") {
+            Some(_) => drop(reasons.insert(line.trim(), reason)),
+            None => reason = line,
+        }
+    }
     let mut wrong = 0;
 
     for (title, old, new) in REFUSED {
@@ -147,10 +175,10 @@ fn run(words: &[String]) -> Result<bool, String> {
                 Err(_) | Ok(None) => refused += 1,
                 Ok(Some(true)) => found += 1,
                 Ok(Some(false)) => {
-                    let key = if of_c { described(text, &change) } else { described_in_mir(text, &change) };
+                    let key = if of_c { in_c(text, &change) } else { in_mir(text, &change) };
                     match reasons.get(key.as_str()) {
-                        Some(_) => excused += 1,
-                        None => {
+                        Some(reason) if !reason.is_empty() => excused += 1,
+                        _ => {
                             wrong += 1;
                             println!("not found: {key}");
                         }
