@@ -52,6 +52,7 @@ pub fn file(program: &Program, header: &Header, exports: Exports, head: &str, in
         }
     }
     let mut types = CTypes::new(program, header, exports);
+    types.structs_agree()?;
     let mut functions = Vec::new();
     for name in &order.list {
         let function = &program.functions[*name];

@@ -277,11 +277,9 @@ impl<'a, 'b> CFunction<'a, 'b> {
             self.shape(to)?;
             return Ok(self.spot(&Place { local: place.local, steps: before.to_vec() })?.whole());
         }
-        let spot = self.spot(place)?;
-        Ok(match (&spot.form, spot.text) {
-            (Form::Elements, Text::Of(text)) => format!("(uint8_t *){text}"),
-            (_, Text::Of(text)) => format!("(uint8_t *)&{text}"),
-            (_, Text::Through(address)) => format!("(uint8_t *){address}"),
+        Ok(match self.spot(place)?.text {
+            Text::Of(text) => format!("(uint8_t *)&{text}"),
+            Text::Through(address) => format!("(uint8_t *){address}"),
         })
     }
 

@@ -61,6 +61,25 @@ impl<'a> CTypes<'a> {
         }
     }
 
+    /// That the structs of the list are there, and have fields of the same types in the header; sizes are asserted in C.
+    pub fn structs_agree(&mut self) -> Answer<()> {
+        for (name, c) in self.exports.structs {
+            let ty = Ty::Named((*name).into());
+            let Some(fields) = self.program.fields(&ty, 0)?.map(<[Ty]>::to_vec) else {
+                return unknown(0, format!("{name}, which is no struct of several fields"));
+            };
+            for (number, field) in fields.iter().enumerate() {
+                let (field, in_header) = (self.program.shape(field, 0)?, self.field(name, number, 0)?);
+                let element = if let Ty::Array(of, _) = &field { (**of).clone() } else { field };
+                let says = in_header.in_header.unwrap_or_default();
+                if self.of(&element, 0)? != says && (element, says) != (Ty::Int(64), "size_t") {
+                    return unknown(0, format!("the field {} of struct {c} of the header as {says}", in_header.name));
+                }
+            }
+        }
+        Ok(())
+    }
+
     /// The name of an array's type by its element's and its length.
     fn part_name(&self, ty: &Ty, at: usize) -> Answer<String> {
         Ok(match ty {

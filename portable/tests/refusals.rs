@@ -194,6 +194,33 @@ fn the_header() {
 }
 
 #[test]
+fn structs_agree_with_the_header() {
+    let text = program(BACK).replacen(
+        " return)))",
+        " return)) (lcons (pair \"a::B\" (fields (tcons (tyInt 16) (tcons (tyInt 64) (tcons (tyArray tyBool (lenLit 3)) tnil))))) lnil))",
+        1,
+    );
+    let exports = Exports { structs: &[("a::B", "b")], ..ONE };
+    let said = |fields: &str| {
+        let header = header::read(&format!("{HEADER}struct b {{ {fields} }};")).expect("a header");
+        let program = mir::read(&text).expect("a program");
+        c_file::file(&program, &header, exports, "", "one.h").map_err(|error| error.what)
+    };
+    assert!(said("uint16_t x; size_t y; bool z[3];").is_ok());
+    assert!(said("uint16_t x; uint64_t y; bool z[3];").is_ok());
+    assert_eq!(
+        said("int16_t x; size_t y; bool z[3];"),
+        Err("the field x of struct b of the header as int16_t".to_string())
+    );
+    assert_eq!(said("uint16_t x; int y; bool z[3];"), Err("the field y of struct b of the header as int".to_string()));
+    assert_eq!(
+        said("uint16_t x; size_t y; char z[3];"),
+        Err("the field z of struct b of the header as char".to_string())
+    );
+    assert!(said("uint16_t x; size_t y;").expect_err("too few").contains("which has other fields than a::B"));
+}
+
+#[test]
 fn the_header_is_narrowed() {
     let text = "/* Head. */\n\n/* Keeps. */\nint kept(int a);\n\n/* Goes. */\nint left(int a,\n         int b);\n\nstruct s {\n    int a;\n};\n";
     let narrowed = header::narrowed(text, &["kept"]).expect("a header");
