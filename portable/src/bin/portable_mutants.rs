@@ -13,8 +13,8 @@ use portable::exports::KOSMYDORE;
 use portable::mutants::{of_c, of_mir, Change, REFUSED};
 use portable::{c_file, header, mir};
 
-/// A mutant that does not end is found after so long.
-const PATIENCE: Duration = Duration::from_secs(20);
+/// A mutant that does not end is found after so long, for each thousand of calls; one takes some hundredths of this.
+const PATIENCE: Duration = Duration::from_millis(600);
 
 /// A change that is not found at first is tried with so many times the calls.
 const AGAIN: u64 = 10;
@@ -56,7 +56,7 @@ impl Trial {
         let words = [calls.to_string(), self.seed.to_string()];
         let mut child = Command::new(program).args(words).stdout(Stdio::null()).stderr(Stdio::null()).spawn().ok()?;
         let began = Instant::now();
-        while began.elapsed() < PATIENCE {
+        while began.elapsed() < PATIENCE * (calls / 1000 + 1) as u32 {
             if let Some(status) = child.try_wait().ok()? {
                 return Some(!status.success());
             }
