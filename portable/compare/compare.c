@@ -14,6 +14,19 @@ static struct bench library, portable;
 static const char *const titles[KINDS] = {"set_up", "hear", "tick", "request", "next_frame", "numbers", "fresh", "wild", "due"};
 static unsigned long made[KINDS], replies[KINDS][16], full_ticks;
 
+/* Whether every reply that a call can give was given, so that the calls show something. */
+static bool all_given(void)
+{
+    static const char *const can[] = {"0123", "04567;", "0;", "089:", "0;<"}; /* from 10 on: : ; < */
+    for (int kind = SET_UP; kind <= NEXT_FRAME; kind++)
+        for (const char *reply = can[kind]; *reply; reply++)
+            if (!replies[kind][*reply - '0']) {
+                printf("%s never answers %d\n", titles[kind], *reply - '0');
+                return false;
+            }
+    return true;
+}
+
 static bool same(const struct call *call, const struct answer *a, const struct answer *b)
 {
     uint8_t x[FLAT], y[FLAT];
@@ -71,5 +84,5 @@ int main(int argc, char **argv)
         printf(kind + 1 < KINDS ? "; " : "\n");
     }
     printf("%lu calls, %lu ticks of 16 records or more, %lu differ\n", count, full_ticks, wrong);
-    return wrong != 0 || full_ticks == 0;
+    return wrong != 0 || full_ticks == 0 || !all_given();
 }
