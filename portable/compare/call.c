@@ -51,11 +51,14 @@ static void settings(struct call *call, uint64_t *state)
         call->s[3] = call->s[1] + call->s[2] + 1 + below(state, 20);
     }
     if (below(state, 8) == 0) { /* at the limits */
-        call->s[0] = call->class_ ? 8000 - below(state, 2) : 0;
-        call->s[1] = call->class_ == 2 ? 8000 - below(state, 2) : 0;
-        call->s[2] = call->class_ == 2 ? 4000 - below(state, 2) : 0;
+        call->s[0] = call->class_ ? 7999 + below(state, 3) : 0;
+        call->s[1] = call->class_ == 2 ? 7999 + below(state, 3) : 0;
+        call->s[2] = call->class_ == 2 ? 3999 + below(state, 3) : 0;
         call->s[3] = call->class_ ? 15999 + below(state, 3) : 0;
-        if (call->class_ == 2 && below(state, 2)) call->s[3] = call->s[1] + call->s[2] + below(state, 3);
+        if (call->class_ == 2 && below(state, 2)) {
+            call->s[0] = 1 + below(state, 4) * 2000;
+            call->s[3] = call->s[1] + call->s[2] + below(state, 3);
+        }
     }
     if (below(state, 6) == 0) { /* past them */
         switch (below(state, 4)) {
@@ -101,10 +104,10 @@ void random_call(struct call *call, uint64_t *state, const struct kosmydore_node
     if (own && (call->kind == HEAR || call->kind == REQUEST || (call->kind == SET_UP && below(state, 3) == 0))) {
         call->number = slot->stream; /* mostly one that the node has */
     }
-    call->code = below(state, 3) ? below(state, 5) : any(state);
+    call->code = below(state, 3) ? below(state, 11) : any(state);
     call->payload_seed = any(state);
     call->output_seed = any(state);
-    call->payload_length = (uint16_t)(below(state, 12) ? below(state, 9) : below(state, 600));
+    call->payload_length = (uint16_t)(below(state, 12) ? below(state, 10) : below(state, 600));
     if (below(state, 2)) { /* the same bytes again, or one of them another, or one more of them */
         call->payload_seed = ALIKE + (below(state, 3) ? 0 : below(state, 9));
         call->payload_length = (uint16_t)(7 + below(state, 2));

@@ -32,7 +32,7 @@ enum Text {
 #[derive(Clone, Copy, PartialEq, Eq)]
 enum Form {
     Value,
-    /// A `size_t` of the header, for a 64-bit number.
+    /// A `size_t`, in a slice or in the header, for a 64-bit number.
     Size,
     /// A C array: its first element is what the text is.
     Elements,
@@ -230,7 +230,8 @@ impl<'a, 'b> CFunction<'a, 'b> {
             let ty = self.shape(after)?;
             spot = match (step, before) {
                 (Step::Deref(_), _) => self.deref(&spot, ty)?,
-                (Step::Field(number), Ty::Slice(..)) => Spot::new(spot.dot(["at", "length"][*number]), ty),
+                (Step::Field(0), Ty::Slice(..)) => Spot::new(spot.dot("at"), ty),
+                (Step::Field(_), Ty::Slice(..)) => Spot { form: Form::Size, ..Spot::new(spot.dot("length"), ty) },
                 (Step::Field(_), Ty::Named(name)) if self.types.program.is_enum(name) => Spot { ty, ..spot },
                 (Step::Field(number), Ty::Named(name)) => match self.types.program.fields(before, self.at)? {
                     Some(_) => self.field(&spot, name, *number, ty)?,
@@ -486,7 +487,7 @@ impl<'a, 'b> CFunction<'a, 'b> {
         match (&named, &spot.ty) {
             (_, Ty::Slice(mutable, of)) if parts.len() == 2 => {
                 let address = Spot::new(into.dot("at"), Ty::Ref(*mutable, of.clone()));
-                let length = Spot::new(into.dot("length"), Ty::Int(64));
+                let length = Spot { form: Form::Size, ..Spot::new(into.dot("length"), Ty::Int(64)) };
                 self.put(&address, &parts[0])?;
                 self.put(&length, &parts[1])?;
             }

@@ -152,7 +152,7 @@ impl<'a> CTypes<'a> {
         let mut out = String::new();
         if self.slices {
             out += "/* A lent slice: the address of its first element, and how many there are. */\n";
-            out += &format!("struct {PREFIX}slice {{\n    uint8_t *at;\n    uint64_t length;\n}};\n\n");
+            out += &format!("struct {PREFIX}slice {{\n    uint8_t *at;\n    size_t length;\n}};\n\n");
         }
         for ty in self.used.clone() {
             let c = self.of(&ty, 0)?;

@@ -13,8 +13,8 @@ use portable::exports::KOSMYDORE;
 use portable::mutants::{of_c, of_mir, Change, REFUSED};
 use portable::{c_file, header, mir};
 
-/// A mutant that does not end is found after so long, for each thousand of calls; one takes some hundredths of this.
-const PATIENCE: Duration = Duration::from_millis(600);
+/// A mutant that does not end is found after so long, for each thousand of calls; they take some hundredths of this.
+const PATIENCE: Duration = Duration::from_millis(800);
 
 /// A change that is not found at first is tried with so many times the calls.
 const AGAIN: u64 = 10;
@@ -40,16 +40,22 @@ impl Trial {
         self.work.join(name).display().to_string()
     }
 
-    /// Whether a comparison over this C file differs; none where it can't be compiled.
+    /// Whether a comparison over this C file differs, or the sanitizers stop it; none where it can't be compiled.
     fn found(&self, c: &str) -> Option<bool> {
-        let (source, program) = (self.path("mutant.c"), self.path("mutant"));
-        fs::write(&source, c).ok()?;
-        let mut compiler = Command::new("gcc");
-        compiler.args(["-std=c99", "-w", "-O0", "-o", &program, &source]).args(&self.names).args(&self.link);
-        if !compiler.stderr(Stdio::null()).status().ok()?.success() {
-            return None;
+        fs::write(self.path("mutant.c"), c).ok()?;
+        let program = self.compiled(&[])?;
+        if self.differs(&program, self.calls)? || self.differs(&program, self.calls * AGAIN)? {
+            return Some(true);
         }
-        Some(self.differs(&program, self.calls)? || self.differs(&program, self.calls * AGAIN)?)
+        let program = self.compiled(&["-fsanitize=address,undefined", "-fno-sanitize-recover=all"])?;
+        self.differs(&program, self.calls)
+    }
+
+    fn compiled(&self, words: &[&str]) -> Option<String> {
+        let (source, program) = (self.path("mutant.c"), self.path("mutant"));
+        let mut compiler = Command::new("gcc");
+        compiler.args(["-std=c99", "-w", "-O0", "-o", &program, &source]).args(words).args(&self.names).args(&self.link);
+        compiler.stderr(Stdio::null()).status().ok()?.success().then_some(program)
     }
 
     fn differs(&self, program: &str, calls: u64) -> Option<bool> {
