@@ -184,6 +184,12 @@ void lend(struct bench *bench, const struct call *call)
     if (0 < other && other < 9 && other <= call->payload_length) payload[other - 1] ^= 16;
 }
 
+void paint(void)
+{
+    volatile uint64_t room[2048];
+    for (size_t i = 0; i < sizeof room / sizeof *room; i++) room[i] = UINT64_C(0xA5C3A5C3A5C3A5C3);
+}
+
 void wild(struct kosmydore_node *node, uint32_t seed)
 {
     uint64_t x = seed;

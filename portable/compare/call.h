@@ -44,6 +44,9 @@ void due(struct kosmydore_node *node, uint32_t seed);
 /* Fills what is lent before a call. */
 void lend(struct bench *bench, const struct call *call);
 
+/* Fills the stack below with what is in no node, so that a value that a call does not write is not right by chance. */
+void paint(void);
+
 typedef void make_call(struct bench *, const struct call *, struct answer *);
 
 #endif

@@ -42,6 +42,7 @@ void MAKE_CALL(struct bench *bench, const struct call *c, struct answer *a)
     s.confirm_delay = (uint16_t)c->s[1];
     s.abort_reach = (uint16_t)c->s[2];
     s.deliver_delay = (uint16_t)c->s[3];
+    paint();
     switch (c->kind) {
     case SET_UP: {
         struct kosmydore_answered r = kosmydore_set_up(*node, c->number, s);

@@ -90,6 +90,75 @@ pub fn of_c(text: &str) -> Vec<Change> {
     found
 }
 
+/// A line of a C file with several changes in it, of which the number in `kd_mutant` chooses one: a declaration with its
+/// value, a condition, or a whole statement. None where it is another kind of line, or a change is not within these.
+fn chosen_line(line: &str, from: usize, changes: &[(usize, &Change)]) -> Option<String> {
+    let words = line.trim_start();
+    let indent = line.len() - words.len();
+    let (head, tail) = if let Some(condition) = words.strip_prefix("if (") {
+        (indent + 4, condition.strip_suffix(") {").map(|_| line.len() - 3)?)
+    } else {
+        let end = words.strip_suffix(';').map(|_| line.len() - 1)?;
+        let declares = ["uint", "bool", "struct"].iter().any(|word| words.starts_with(word));
+        if words.starts_with("return") || words == ";" {
+            return None;
+        }
+        match (declares, line.find(" = ")) {
+            (true, Some(at)) if !line[at + 3..].starts_with('{') => (at + 3, end),
+            (true, _) => return None,
+            (false, _) => {
+                let mut out = line[..indent].to_string();
+                for (number, change) in changes {
+                    let changed = Change { from: change.from - from, to: change.to - from, new: change.new.clone() };
+                    out += &format!("if (kd_mutant == {number}) {{ {} }} else ", changed.applied(line).trim());
+                }
+                return Some(out + words);
+            }
+        }
+    };
+    let mut out = line[..head].to_string();
+    for (number, change) in changes {
+        if change.from - from < head || change.to - from > tail {
+            return None;
+        }
+        let changed = Change { from: change.from - from, to: change.to - from, new: change.new.clone() }.applied(line);
+        let value = &changed[head..changed.len() - (line.len() - tail)];
+        out += &format!("kd_mutant == {number} ? ({value}) : ");
+    }
+    Some(format!("{out}({}){}", &line[head..tail], &line[tail..]))
+}
+
+/// The C file with as many of the changes in it as can be: `MUTANT` in the environment is the number of one of them, from 1
+/// on. The others are answered by their places in the list.
+pub fn gathered(text: &str, changes: &[Change]) -> (String, Vec<usize>) {
+    let (mut out, mut others) = (String::new(), Vec::new());
+    let mut from = 0;
+    for line in text.split_inclusive('\n') {
+        let bare = line.trim_end_matches('\n');
+        let within = |change: &Change| from <= change.from && change.to <= from + bare.len();
+        let (alone, here): (Vec<_>, Vec<_>) = changes
+            .iter()
+            .enumerate()
+            .filter(|(_, change)| within(change))
+            .map(|(at, one)| (at + 1, one))
+            .partition(|(_, change)| change.new.starts_with('.')); // another field may not compile
+        others.extend(alone.iter().map(|(number, _)| number - 1));
+        match chosen_line(bare, from, &here) {
+            Some(chosen) if !here.is_empty() => out += &chosen,
+            _ => {
+                others.extend(here.iter().map(|(number, _)| number - 1));
+                out += bare;
+            }
+        }
+        out += "\n";
+        from += line.len();
+    }
+    let chooser = "#include <stdlib.h>\nstatic int kd_chosen = -1;\n\
+                   static int kd_choose(void) { return kd_chosen = getenv(\"MUTANT\") ? atoi(getenv(\"MUTANT\")) : 0; }\n\
+                   #define kd_mutant (kd_chosen < 0 ? kd_choose() : kd_chosen)\n";
+    (format!("{chooser}{out}"), others)
+}
+
 /// The changes of a program that is still one.
 pub fn of_mir(text: &str) -> Vec<Change> {
     let mut found = swaps(

@@ -1,6 +1,7 @@
-//! `portable_mutants MIR HEADER WORK UNSEEN COUNT SEED CALLS`: tries one-place changes of the program and of the C file that is made
-//! from it, COUNT of each (all, if 0), chosen by SEED. WORK has what a comparison is linked of: `link` and `names` have the
-//! words for the C compiler. A change that the comparison does not find must stand in the file UNSEEN with its reason.
+//! `portable_mutants MIR HEADER WORK UNSEEN COUNT COUNT SEED CALLS`: tries so many one-place changes of the program, and so
+//! many of the C file that is made from it (a number, or `all`), chosen by SEED. WORK has what a comparison is linked of:
+//! `link` and `names` have the words for the C compiler. A change that CALLS random calls, more of them, and the
+//! sanitizers do not find must stand in the file UNSEEN under its reason.
 
 use std::collections::BTreeMap;
 use std::fs;
@@ -10,7 +11,7 @@ use std::thread::sleep;
 use std::time::{Duration, Instant};
 
 use portable::exports::KOSMYDORE;
-use portable::mutants::{of_c, of_mir, Change, REFUSED};
+use portable::mutants::{gathered, of_c, of_mir, Change, REFUSED};
 use portable::{c_file, header, mir};
 
 /// A mutant that does not end is found after so long, for each thousand of calls; they take some hundredths of this.
@@ -40,27 +41,39 @@ impl Trial {
         self.work.join(name).display().to_string()
     }
 
-    /// Whether a comparison over this C file differs, or the sanitizers stop it; none where it can't be compiled.
-    fn found(&self, c: &str) -> Option<bool> {
+    /// A comparison over this C file, and one under the sanitizers; none where it can't be compiled.
+    fn compiled(&self, c: &str, level: &str) -> Option<Mutant> {
         fs::write(self.path("mutant.c"), c).ok()?;
-        let program = self.compiled(&[])?;
-        if self.differs(&program, self.calls)? || self.differs(&program, self.calls * AGAIN)? {
-            return Some(true);
-        }
-        let program = self.compiled(&["-fsanitize=address,undefined", "-fno-sanitize-recover=all"])?;
-        self.differs(&program, self.calls)
+        let program = self.program("mutant", &[level])?;
+        Some(Mutant { program, number: 0, sanitized: None })
     }
 
-    fn compiled(&self, words: &[&str]) -> Option<String> {
-        let (source, program) = (self.path("mutant.c"), self.path("mutant"));
+    fn program(&self, name: &str, words: &[&str]) -> Option<String> {
+        let (source, program) = (self.path("mutant.c"), self.path(name));
         let mut compiler = Command::new("gcc");
-        compiler.args(["-std=c99", "-w", "-O0", "-o", &program, &source]).args(words).args(&self.names).args(&self.link);
+        compiler.args(["-std=c99", "-w", "-o", &program, &source]).args(words).args(&self.names).args(&self.link);
         compiler.stderr(Stdio::null()).status().ok()?.success().then_some(program)
     }
 
-    fn differs(&self, program: &str, calls: u64) -> Option<bool> {
+    /// Whether the comparison differs, or the sanitizers stop it.
+    fn found(&self, mutant: &mut Mutant) -> Option<bool> {
+        if self.differs(&mutant.program, mutant.number, self.calls)?
+            || self.differs(&mutant.program, mutant.number, self.calls * AGAIN)?
+        {
+            return Some(true);
+        }
+        if mutant.sanitized.is_none() {
+            mutant.sanitized =
+                self.program("sanitized", &["-O1", "-fsanitize=address,undefined", "-fno-sanitize-recover=all"]);
+        }
+        self.differs(mutant.sanitized.as_ref()?, mutant.number, self.calls)
+    }
+
+    fn differs(&self, program: &str, number: usize, calls: u64) -> Option<bool> {
         let words = [calls.to_string(), self.seed.to_string()];
-        let mut child = Command::new(program).args(words).stdout(Stdio::null()).stderr(Stdio::null()).spawn().ok()?;
+        let mut command = Command::new(program);
+        command.args(words).env("MUTANT", number.to_string()).stdout(Stdio::null()).stderr(Stdio::null());
+        let mut child = command.spawn().ok()?;
         let began = Instant::now();
         while began.elapsed() < PATIENCE * (calls / 1000 + 1) as u32 {
             if let Some(status) = child.try_wait().ok()? {
@@ -74,19 +87,53 @@ impl Trial {
     }
 }
 
-/// So many of them, chosen by the seed; all, if 0.
+/// A program that compares a changed C file with the library. In one that has several changes the number chooses.
+struct Mutant {
+    program: String,
+    number: usize,
+    /// The same under the sanitizers, made when it is asked for.
+    sanitized: Option<String>,
+}
+
+/// How many changes were tried, and what came of them.
+#[derive(Default)]
+struct Score {
+    found: usize,
+    refused: usize,
+    excused: usize,
+    wrong: usize,
+}
+
+impl Score {
+    fn count(&mut self, found: Option<bool>, name: impl Fn() -> String, reasons: &BTreeMap<&str, &str>) {
+        match found {
+            None => self.refused += 1,
+            Some(true) => self.found += 1,
+            Some(false) => match reasons.get(name().as_str()) {
+                Some(reason) if !reason.is_empty() => self.excused += 1,
+                _ => {
+                    self.wrong += 1;
+                    println!("not found: {}", name());
+                }
+            },
+        }
+    }
+
+    fn say(&self, kind: &str, all: usize) {
+        let Score { found, refused, excused, .. } = self;
+        println!("{kind}: of {all} changes {found} found, {refused} refused, {excused} can't be seen (listed)");
+    }
+}
+
+/// So many of them, chosen by the seed.
 fn chosen(mut changes: Vec<Change>, count: usize, seed: u64) -> Vec<Change> {
     let mut state = seed;
     let mut picked = Vec::new();
-    while count > 0 && picked.len() < count && !changes.is_empty() {
+    while picked.len() < count && !changes.is_empty() {
         state = state.wrapping_mul(6364136223846793005).wrapping_add(1442695040888963407);
         picked.push(changes.swap_remove((state >> 33) as usize % changes.len()));
     }
-    if count == 0 {
-        changes
-    } else {
-        picked
-    }
+    picked
 }
 
 /// A text without the numbers that follow a word, so that a name for it outlives a local more or less.
@@ -126,8 +173,8 @@ fn in_mir(text: &str, change: &Change) -> String {
 }
 
 fn run(words: &[String]) -> Result<bool, String> {
-    let [program, header, work, unseen, count, seed, calls] = words else {
-        return Err("usage: portable_mutants MIR HEADER WORK UNSEEN COUNT SEED CALLS".to_string());
+    let [program, header, work, unseen, of_mir_count, of_c_count, seed, calls] = words else {
+        return Err("usage: portable_mutants MIR HEADER WORK UNSEEN COUNT COUNT SEED CALLS".to_string());
     };
     let read = |name: &str| fs::read_to_string(name).map_err(|error| format!("{name} can't be read: {error}"));
     let number = |word: &String| word.parse::<u64>().map_err(|_| format!("{word} is not a number"));
@@ -135,7 +182,9 @@ fn run(words: &[String]) -> Result<bool, String> {
     let words_of = |name: &str| list(name).map(|text| text.split_whitespace().map(str::to_string).collect::<Vec<_>>());
     let (names, link) = (words_of("names")?, words_of("link")?);
     let header = read(header)?;
-    let (count, seed, calls) = (number(count)? as usize, number(seed)?, number(calls)?);
+    let count = |word: &String| if word == "all" { Ok(usize::MAX) } else { number(word).map(|count| count as usize) };
+    let (of_mir_count, of_c_count) = (count(of_mir_count)?, count(of_c_count)?);
+    let (seed, calls) = (number(seed)?, number(calls)?);
     let trial = Trial { work: work.into(), header, names, link, seed, calls };
     let text = read(program)?;
     let unseen_text = read(unseen)?;
@@ -168,34 +217,40 @@ fn run(words: &[String]) -> Result<bool, String> {
     println!("{} edits that the translator must refuse", REFUSED.len());
 
     let c = trial.translated(&text)?;
-    if trial.found(&c) != Some(false) {
+    let unchanged = trial.compiled(&c, "-O0").and_then(|mut mutant| trial.found(&mut mutant));
+    if unchanged != Some(false) {
         return Err("the unchanged program differs from the library, or can't be compiled".to_string());
     }
-    let mut tried = |kind: &str, changes: Vec<Change>, text: &str, of_c: bool| {
-        let all = changes.len();
-        let (mut found, mut refused, mut excused) = (0, 0, 0);
-        for change in chosen(changes, count, seed) {
-            let changed = change.applied(text);
-            let translated = if of_c { Ok(changed) } else { trial.translated(&changed) };
-            match translated.map(|c| trial.found(&c)) {
-                Err(_) | Ok(None) => refused += 1,
-                Ok(Some(true)) => found += 1,
-                Ok(Some(false)) => {
-                    let key = if of_c { in_c(text, &change) } else { in_mir(text, &change) };
-                    match reasons.get(key.as_str()) {
-                        Some(reason) if !reason.is_empty() => excused += 1,
-                        _ => {
-                            wrong += 1;
-                            println!("not found: {key}");
-                        }
-                    }
-                }
-            }
-        }
-        println!("{kind}: of {all} changes {found} found, {refused} refused, {excused} can't be seen (listed)");
+
+    let mut of_program = Score::default();
+    let changes = of_mir(&text);
+    let all = changes.len();
+    for change in chosen(changes, of_mir_count, seed) {
+        let mutant = trial.translated(&change.applied(&text)).ok().and_then(|c| trial.compiled(&c, "-O0"));
+        let found = mutant.and_then(|mut mutant| trial.found(&mut mutant));
+        of_program.count(found, || in_mir(&text, &change), &reasons);
+    }
+    of_program.say("the program", all);
+
+    // Of the C file all changes are compiled together, and one is chosen when it runs; a few want a file of their own.
+    let mut of_file = Score::default();
+    let changes = of_c(&c);
+    let all = changes.len();
+    let changes = chosen(changes, of_c_count, seed);
+    let (together, others) = gathered(&c, &changes);
+    let Some(mut mutant) = trial.compiled(&together, "-O1") else {
+        return Err("the C file with all changes in it can't be compiled".to_string());
     };
-    tried("the program", of_mir(&text), &text, false);
-    tried("the C file", of_c(&c), &c, true);
+    for (number, change) in changes.iter().enumerate().filter(|(number, _)| !others.contains(number)) {
+        mutant.number = number + 1;
+        of_file.count(trial.found(&mut mutant), || in_c(&c, change), &reasons);
+    }
+    for change in others.iter().map(|number| &changes[*number]) {
+        let mutant = trial.compiled(&change.applied(&c), "-O0");
+        of_file.count(mutant.and_then(|mut mutant| trial.found(&mut mutant)), || in_c(&c, change), &reasons);
+    }
+    of_file.say("the C file", all);
+    wrong += of_program.wrong + of_file.wrong;
     Ok(wrong == 0)
 }
 
