@@ -116,7 +116,9 @@ void random_call(struct call *call, uint64_t *state, const struct kosmydore_node
     if (call->kind == HEAR) {
         call->code = below(state, 4);
         if (own && below(state, 4)) call->code = slot->settings.class_ == 2 ? below(state, 3) : slot->settings.class_ ? 0 : 3;
-        call->number = below(state, 30) ? call->number * 4 + call->code : any(state);
+        call->number = below(state, 30) ? call->number * 4 + call->code
+                       : below(state, 2) ? UINT32_C(536870909) + below(state, 6)
+                                         : any(state);
         if ((call->code == 1 || call->code == 2) && below(state, 8)) call->payload_length = 0;
         call->dlc = (uint8_t)(below(state, 20) ? call->payload_length : below(state, 2) ? below(state, 17) : any(state));
         if (call->payload_length == 8 && below(state, 4) == 0) call->dlc = (uint8_t)(8 + below(state, 9));
@@ -201,12 +203,13 @@ void wild(struct kosmydore_node *node, uint32_t seed)
         bool far = all || (r & 7) == 0;
         r >>= 3;
         s->stream = far ? (uint32_t)q : (uint32_t)(q % 40);
+        if (q >> 60 == 0) s->stream = UINT32_C(134217726) + (uint32_t)(q % 4);
         s->settings.data_reach = (uint16_t)(far ? r : r % 30);
         s->settings.confirm_delay = (uint16_t)(far ? r >> 5 : (r >> 5) % 30);
         s->settings.abort_reach = (uint16_t)(far ? r >> 10 : (r >> 10) % 30);
         s->settings.deliver_delay = (uint16_t)(far ? r >> 15 : (r >> 15) % 30);
         s->settings.role = (uint8_t)(far ? (r >> 41) % 2 ? r >> 20 : (r >> 20) % 4 : (r >> 20) & 1);
-        s->settings.class_ = (uint8_t)(far ? (r >> 40) % 2 ? r >> 30 : (r >> 30) % 6 : (r >> 30) % 3);
+        s->settings.class_ = (uint8_t)(far ? (r >> 40) % 2 ? r >> 30 : (r >> 30) % 6 : (r >> 44) % 8 ? (r >> 30) % 3 : 3);
         q = random_step(&x);
         s->message.stamp = (uint16_t)(far ? q : q % 40);
         s->message.length = (uint8_t)(far && q >> 60 == 0 ? q >> 16 : (q >> 16) % 11);

@@ -68,7 +68,7 @@ pub fn of_c(text: &str) -> Vec<Change> {
             ("(uint8_t)v", "(uint8_t)~v"),
             (".f1", ".f0"),
             ("->at", "->at + 1"),
-            ("memcpy(", "memmove((uint8_t[64]){0}, "),
+            ("memcpy(", "(void)sizeof("),
         ],
     );
     for bits in ["8", "16", "32", "64"] {

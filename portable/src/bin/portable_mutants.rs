@@ -42,16 +42,21 @@ impl Trial {
     }
 
     /// A comparison over this C file, and one under the sanitizers; none where it can't be compiled.
-    fn compiled(&self, c: &str, level: &str) -> Option<Mutant> {
+    fn compiled(&self, c: &str) -> Option<Mutant> {
         fs::write(self.path("mutant.c"), c).ok()?;
-        let program = self.program("mutant", &[level])?;
+        let program = self.program("mutant", &[])?;
         Some(Mutant { program, number: 0, sanitized: None })
     }
 
     fn program(&self, name: &str, words: &[&str]) -> Option<String> {
         let (source, program) = (self.path("mutant.c"), self.path(name));
         let mut compiler = Command::new("gcc");
-        compiler.args(["-std=c99", "-w", "-o", &program, &source]).args(words).args(&self.names).args(&self.link);
+        // Without optimization: a compiler may take a store that is left out for one of any value, the right one too.
+        compiler
+            .args(["-std=c99", "-w", "-O0", "-o", &program, &source])
+            .args(words)
+            .args(&self.names)
+            .args(&self.link);
         compiler.stderr(Stdio::null()).status().ok()?.success().then_some(program)
     }
 
@@ -64,9 +69,9 @@ impl Trial {
         }
         if mutant.sanitized.is_none() {
             mutant.sanitized =
-                self.program("sanitized", &["-O1", "-fsanitize=address,undefined", "-fno-sanitize-recover=all"]);
+                self.program("sanitized", &["-fsanitize=address,undefined", "-fno-sanitize-recover=all"]);
         }
-        self.differs(mutant.sanitized.as_ref()?, mutant.number, self.calls)
+        self.differs(mutant.sanitized.as_ref()?, mutant.number, self.calls * AGAIN / 2)
     }
 
     fn differs(&self, program: &str, number: usize, calls: u64) -> Option<bool> {
@@ -217,7 +222,7 @@ fn run(words: &[String]) -> Result<bool, String> {
     println!("{} edits that the translator must refuse", REFUSED.len());
 
     let c = trial.translated(&text)?;
-    let unchanged = trial.compiled(&c, "-O0").and_then(|mut mutant| trial.found(&mut mutant));
+    let unchanged = trial.compiled(&c).and_then(|mut mutant| trial.found(&mut mutant));
     if unchanged != Some(false) {
         return Err("the unchanged program differs from the library, or can't be compiled".to_string());
     }
@@ -226,7 +231,7 @@ fn run(words: &[String]) -> Result<bool, String> {
     let changes = of_mir(&text);
     let all = changes.len();
     for change in chosen(changes, of_mir_count, seed) {
-        let mutant = trial.translated(&change.applied(&text)).ok().and_then(|c| trial.compiled(&c, "-O0"));
+        let mutant = trial.translated(&change.applied(&text)).ok().and_then(|c| trial.compiled(&c));
         let found = mutant.and_then(|mut mutant| trial.found(&mut mutant));
         of_program.count(found, || in_mir(&text, &change), &reasons);
     }
@@ -238,7 +243,7 @@ fn run(words: &[String]) -> Result<bool, String> {
     let all = changes.len();
     let changes = chosen(changes, of_c_count, seed);
     let (together, others) = gathered(&c, &changes);
-    let Some(mut mutant) = trial.compiled(&together, "-O1") else {
+    let Some(mut mutant) = trial.compiled(&together) else {
         return Err("the C file with all changes in it can't be compiled".to_string());
     };
     for (number, change) in changes.iter().enumerate().filter(|(number, _)| !others.contains(number)) {
@@ -246,7 +251,7 @@ fn run(words: &[String]) -> Result<bool, String> {
         of_file.count(trial.found(&mut mutant), || in_c(&c, change), &reasons);
     }
     for change in others.iter().map(|number| &changes[*number]) {
-        let mutant = trial.compiled(&change.applied(&c), "-O0");
+        let mutant = trial.compiled(&change.applied(&c));
         of_file.count(mutant.and_then(|mut mutant| trial.found(&mut mutant)), || in_c(&c, change), &reasons);
     }
     of_file.say("the C file", all);
