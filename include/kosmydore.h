@@ -10,7 +10,8 @@
  * The node's calls take the whole node and give it back in their answer.
  *
  * The functions are in the static library libkosmydore.a, which `./kosmydore library DIR` puts into a
- * folder, with this header beside it.
+ * folder, for x86-64 Linux, or in kosmydore.c, which `./kosmydore portable DIR` puts there, for any C99
+ * compiler; either with this header beside it.
  *
  * SPDX-License-Identifier: Apache-2.0
  */

@@ -1,0 +1,90 @@
+/* The C file against the kit's library in one process:
+ *   compare CALLS SEED [VECTORS]
+ * makes random calls on both, and compares every answer, every field of the node and every byte of the output's room and
+ * of the payload's. The first calls and the library's answers go to the file VECTORS, for a replay on another chip. */
+#include "call.h"
+
+#include <stdio.h>
+#include <stdlib.h>
+#include <string.h>
+
+make_call library_call, portable_call;
+
+enum { REPLAYED = 200000 };
+
+static struct bench library, portable;
+static const char *const titles[KINDS] = {"set_up", "hear", "tick", "request", "next_frame", "numbers", "fresh", "wild", "due"};
+static unsigned long made[KINDS], replies[KINDS][16], full_ticks;
+
+/* Whether every reply that a call can give was given, so that the calls show something. */
+static bool all_given(void)
+{
+    static const char *const can[] = {"0123", "04567;", "0;", "089:", "0;<"}; /* from 10 on: : ; < */
+    for (int kind = SET_UP; kind <= NEXT_FRAME; kind++)
+        for (const char *reply = can[kind]; *reply; reply++)
+            if (!replies[kind][*reply - '0']) {
+                printf("%s never answers %d\n", titles[kind], *reply - '0');
+                return false;
+            }
+    return true;
+}
+
+static bool same(const struct call *call, const struct answer *a, const struct answer *b)
+{
+    uint8_t x[FLAT], y[FLAT];
+    flat(&library.nodes[call->node], x);
+    flat(&portable.nodes[call->node], y);
+    return a->reply == b->reply && a->written == b->written && a->id == b->id && a->numbers == b->numbers &&
+           memcmp(x, y, FLAT) == 0 && memcmp(library.output, portable.output, sizeof library.output) == 0 &&
+           memcmp(library.payload, portable.payload, sizeof library.payload) == 0;
+}
+
+int main(int argc, char **argv)
+{
+    unsigned long count = argc > 1 ? strtoul(argv[1], 0, 10) : 0, wrong = 0;
+    uint64_t state = argc > 2 ? strtoull(argv[2], 0, 10) : 0;
+    FILE *vectors = argc > 3 ? fopen(argv[3], "wb") : 0;
+    struct call call;
+    struct answer a, b;
+    if (argc < 3 || count == 0 || (argc > 3 && !vectors)) {
+        fprintf(stderr, "usage: compare CALLS SEED [VECTORS]\n");
+        return 2;
+    }
+    for (unsigned long i = 0; i < count + NODES && wrong < 5; i++) {
+        random_call(&call, &state, library.nodes);
+        if (i < NODES) {
+            call.kind = FRESH;
+            call.node = (uint8_t)i;
+        }
+        lend(&library, &call);
+        library_call(&library, &call, &a);
+        lend(&portable, &call);
+        portable_call(&portable, &call, &b);
+        made[call.kind]++;
+        replies[call.kind][a.reply & 15]++;
+        full_ticks += call.kind == TICK && a.written >= 16 * 8;
+        if (!same(&call, &a, &b)) {
+            wrong++;
+            printf("call %lu, %s: the library answers %lu %lu %lu, and the C file %lu %lu %lu\n", i, titles[call.kind],
+                   (unsigned long)a.reply, (unsigned long)a.written, (unsigned long)a.id, (unsigned long)b.reply,
+                   (unsigned long)b.written, (unsigned long)b.id);
+        }
+        if (vectors && i < REPLAYED) {
+            uint8_t x[FLAT];
+            flat(&library.nodes[call.node], x);
+            a.node = sum_of(x, FLAT);
+            a.output = sum_of(library.output, sizeof library.output);
+            fwrite(&call, sizeof call, 1, vectors);
+            fwrite(&a, sizeof a, 1, vectors);
+        }
+    }
+    if (vectors && fclose(vectors) != 0) return 2;
+    for (int kind = 0; kind < KINDS; kind++) {
+        printf("%s %lu", titles[kind], made[kind]);
+        for (int reply = 0; kind <= NEXT_FRAME && reply < 16; reply++)
+            if (replies[kind][reply]) printf(" %d:%lu", reply, replies[kind][reply]);
+        printf(kind + 1 < KINDS ? "; " : "\n");
+    }
+    printf("%lu calls, %lu ticks of 16 records or more, %lu differ\n", count, full_ticks, wrong);
+    return wrong != 0 || full_ticks == 0 || !all_given();
+}
