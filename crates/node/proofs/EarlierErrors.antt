@@ -2,7 +2,6 @@
 use Prim.Native.Nat.{ℕ, _+_, _%_, _≤_, _<_}
 use native.Mathlib.Omega.{arith}
 use mathlib.Core.Path.{_≡_, refl, sym, ap, _∙_}
-use mathlib.Core.Logic.{⊎-elim}
 use mathlib.Core.Bool.{true, false, and-eq-true-iff}
 use mathlib.Core.List.{List}
 use Rattle.wire.specs.declared.ids.Stream.{Stream}
@@ -24,7 +23,7 @@ use Rattle.node.proofs.slots.Streams.{heard-keeps, slot-of-changed, slo
 use Rattle.node.proofs.tick.Tests.{Late, late-tells, due-tells, hold-over-tells}
 use Rattle.node.proofs.tick.Stirring.{unconfirmed-is-not-due, late-is-dropped, due-is-delivered}
 use Rattle.node.proofs.tick.Ascending.{Ascends, due-ascend}
-use Rattle.node.proofs.kept.EachSlot.{imd-not-two, not-sender}
+use Rattle.node.proofs.kept.EachSlot.{not-sender}
 use Rattle.node.proofs.slot_order.InStreamOrder.{stream-order-unseen}
 
 -- ── delivering on age alone ──

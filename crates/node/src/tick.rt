@@ -111,10 +111,10 @@ impl Slot {
     pub fn dropped(mut self) -> Slot
         ensures { λ r. ⌜ r ≡ dropped self ⌝ }
     {
-        let none = Message::NONE;
+        let after_drop = Message::NONE;
         let mut p = self.pending;
         p.abort = true;
-        self.message = none;
+        self.message = after_drop;
         self.pending = p;
         self
     }
@@ -123,8 +123,8 @@ impl Slot {
     pub fn delivered(mut self) -> Slot
         ensures { λ r. ⌜ r ≡ delivered self ⌝ }
     {
-        let none = Message::NONE;
-        self.message = none;
+        let after_delivery = Message::NONE;
+        self.message = after_delivery;
         self
     }
 

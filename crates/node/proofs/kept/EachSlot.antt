@@ -160,7 +160,7 @@ kept-parts now x k used m p km kp = record { free = λ h. contrary used h; lawfu
 pub not-sender : (s : Settings) → receives s ≡ true → sends s ≡ false
 not-sender s r = ne-eqb (s .role) 1 (λ e. omega (arith, eqb-true (s .role) 0 r))
 
-pub imd-not-two : (s : Settings) → isImd s ≡ true → isTwoMessage s ≡ false
+imd-not-two : (s : Settings) → isImd s ≡ true → isTwoMessage s ≡ false
 imd-not-two s i = ne-eqb (s .class) 2 (λ e. omega (arith, eqb-true (s .class) 1 i))
 
 pub two-not-plain : (s : Settings) → isTwoMessage s ≡ true → isPlain s ≡ false
