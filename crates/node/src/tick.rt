@@ -180,7 +180,7 @@ impl Node {
                     let n = message.payload_length();
                     at += write_record(&mut out[at..], old.stream, &bytes[0..n]);
                 } else {
-                    // And again: a slot that is not due then shares nothing with one that is.
+                    // And again, so that what is delivered and what is not share no copy of a slot.
                     let other = self.slots[i];
                     if other.late(a) {
                         self.slots[i] = other.dropped();
