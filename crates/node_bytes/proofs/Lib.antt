@@ -1,0 +1,13 @@
+-- What is shown of the definitions of node_bytes.
+pub mod Places
+pub mod Elsewhere
+pub mod SlotRoundTrip
+pub mod ByIndex
+pub mod NodeRoundTrip
+pub mod AreBytes
+pub mod Stored
+pub mod Found
+pub mod Fitting
+pub mod Lent
+pub mod Unique
+pub mod WorkedNodes

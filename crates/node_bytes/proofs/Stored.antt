@@ -1,0 +1,100 @@
+-- What a store does to the node that bytes are.
+use mathlib.Core.Path.{_≡_, refl, sym, ap, _∙_}
+use mathlib.Core.Bool.{Bool, true, false}
+use mathlib.Core.Logic.{_⊎_, inl, inr}
+use mathlib.Core.List.{List, _++_, append-assoc}
+use Prim.Native.Nat.{ℕ, _+_, _<_}
+use native.Mathlib.Omega.{arith}
+use borrow.Author.Tests.{ltb-true, ltb-false, eqb-true, eqb-false}
+use lib.ListN.{length, getD, set, take, drop, length-set}
+use lib.Seq.{sets, sets-eq, length-take-le, ext-getD, getD-set-same, getD-set-other}
+use lib.Dec.{eqb, ltb}
+use Rattle.wire.specs.Delivered.{littleEndian, numberAt}
+use Rattle.node.specs.declared.slots.Slot.{Slot}
+use Rattle.node.specs.Slots.{empty}
+use Rattle.node.specs.Nodes.{slotCount}
+use Rattle.node_bytes.specs.Layout.{slotSize, slotStart, counterAt, nodeSize}
+use Rattle.node_bytes.specs.Decoding.{byteAt, slotFrom, slotAt, decode}
+use Rattle.node_bytes.specs.Encoding.{encodeSlot}
+use Rattle.node_bytes.specs.Lent.{withSlot, withCounter}
+use Rattle.node_bytes.specs.Widths.{Fits16, SlotFits}
+use Rattle.node_bytes.proofs.Elsewhere.{Outside, byte-elsewhere, counter-same, slot-same}
+use Rattle.node_bytes.proofs.SlotRoundTrip.{slot-back}
+use Rattle.node_bytes.proofs.NodeRoundTrip.{length-encoded-slot, counter-there}
+use Rattle.node_bytes.proofs.ByIndex.{decoded-slot, decoded-length, decoded-counter, same-node}
+
+either : (j i : ℕ) → (j ≡ i → ⊥) → (j < i) ⊎ (i < j)
+either j i other = by-test (ltb j i) refl
+  where
+    by-test : (t : Bool) → ltb j i ≡ t → (j < i) ⊎ (i < j)
+    by-test true e = inl (ltb-true j i e)
+    by-test false e = inr (omega (arith, ltb-false j i e, other))
+
+-- ── a slot ──
+module _ (bytes : List ℕ) (i : ℕ) (x : Slot) (whole : length bytes ≡ nodeSize) (inside : i < slotCount) (fits : SlotFits x) where
+  abbrev after : List ℕ
+  after = sets bytes (slotStart i) (encodeSlot x)
+
+  pub stored-here : slotAt after i ≡ x
+  stored-here =
+      let at : ℕ = slotStart i in
+      let own : List ℕ = encodeSlot x in
+      let long = length-encoded-slot x in
+      let front : at ≡ length (take at bytes) = sym (length-take-le at bytes (omega arith)) in
+      rw (sets-eq own bytes at (omega arith), append-assoc (take at bytes) own (drop (at + length own) bytes))
+      (ap (slotFrom (take at bytes ++ (own ++ drop (at + length own) bytes))) front ∙ slot-back (take at bytes) _ x fits)
+
+  -- a byte of no slot but i
+  stored-outside : (j : ℕ) → Outside (slotStart i) slotSize j → byteAt after j ≡ byteAt bytes j
+  stored-outside j o = byte-elsewhere bytes (encodeSlot x) (slotStart i) j (rw (length-encoded-slot x) o)
+
+  pub stored-elsewhere : (j : ℕ) → (j < i) ⊎ (i < j) → slotAt after j ≡ slotAt bytes j
+  stored-elsewhere j (inl h) = slot-same after bytes (slotStart j) (λ k p q. stored-outside k (inl (omega arith)))
+  stored-elsewhere j (inr h) = slot-same after bytes (slotStart j) (λ k p q. stored-outside k (inr (omega arith)))
+
+  each-slot : (j : ℕ) (same : Bool) → eqb j i ≡ same → j < slotCount → slotAt after j ≡ getD (set (decode bytes .slots) i x) j empty
+  each-slot j true e h =
+      let same = eqb-true j i e in
+      rw same (stored-here ∙ sym (getD-set-same (decode bytes .slots) i x empty (omega (arith, decoded-length bytes))))
+  each-slot j false e h =
+      let other = eqb-false j i e in
+      stored-elsewhere j (either j i other)
+      ∙ sym (getD-set-other (decode bytes .slots) i j x empty other ∙ decoded-slot bytes j empty h)
+
+  pub decode-stored : decode after ≡ withSlot i x (decode bytes)
+  decode-stored =
+      same-node
+      (ext-getD empty (decode after .slots) (set (decode bytes .slots) i x)
+      (decoded-length after ∙ sym (length-set (decode bytes .slots) i x ∙ decoded-length bytes))
+      (λ j h.
+      let less : j < slotCount = omega (arith, decoded-length after) in
+      decoded-slot after j empty less ∙ each-slot j (eqb j i) refl less))
+      (decoded-counter after
+      ∙ counter-same after bytes counterAt (λ k p q. stored-outside k (inr (omega arith)))
+      ∙ sym (decoded-counter bytes))
+
+-- ── the counter ──
+module _ (bytes : List ℕ) (c : ℕ) (whole : length bytes ≡ nodeSize) (fits : Fits16 c) where
+  abbrev counted : List ℕ
+  counted = sets bytes counterAt (littleEndian 2 c)
+
+  counter-here : numberAt 2 counted counterAt ≡ c
+  counter-here =
+      let own : List ℕ = littleEndian 2 c in
+      let front : counterAt ≡ length (take counterAt bytes) = sym (length-take-le counterAt bytes (omega arith)) in
+      rw (sets-eq own bytes counterAt (omega arith), append-assoc (take counterAt bytes) own (drop (counterAt + length own) bytes))
+      (ap (numberAt 2 (take counterAt bytes ++ (own ++ drop (counterAt + length own) bytes))) front ∙ counter-there (take counterAt bytes) _ c fits)
+
+  slot-stays : (j : ℕ) → j < slotCount → slotAt counted j ≡ slotAt bytes j
+  slot-stays j h =
+      slot-same counted bytes (slotStart j) (λ k p q. byte-elsewhere bytes (littleEndian 2 c) counterAt k (inl (omega arith)))
+
+  pub decode-counted : decode counted ≡ withCounter c (decode bytes)
+  decode-counted =
+      same-node
+      (ext-getD empty (decode counted .slots) (decode bytes .slots)
+      (decoded-length counted ∙ sym (decoded-length bytes))
+      (λ j h.
+      let less : j < slotCount = omega (arith, decoded-length counted) in
+      decoded-slot counted j empty less ∙ slot-stays j less ∙ sym (decoded-slot bytes j empty less)))
+      (decoded-counter counted ∙ counter-here)

@@ -1,0 +1,13 @@
+-- `held_at` meets its contract: the flag at its place.
+use borrow.Author.Needs.{needs}
+use Rattle.node_bytes.specs.Decoding.{slotFrom}
+use Rattle.node_bytes.proofs.slots.held_at.Statement.{statement}
+use Rattle.node_bytes.proofs.slots.held_at.Tie as tie
+
+returns : tie.Need-returns
+unfolding slotFrom
+returns c = c .flag-at .ensures
+
+pub held-at-spec : {M : Type 1} → statement M
+held-at-spec =
+    tie.close (tie.spec (λ c. search needs) (λ c. search needs) (λ c κs. search needs) returns)

@@ -1,0 +1,26 @@
+-- `stamp` meets its contract: of the slot that is there, or of the empty one.
+use borrow.Author.Needs.{needs}
+use mathlib.Core.Path.{sym, _∙_}
+use denote.Ref.{now}
+use Rattle.node.specs.declared.slots.Slot.{Slot}
+use Rattle.node_bytes.proofs.Lent.{is-slot, asked-there, asked-empty}
+use Rattle.node_bytes.proofs.slots.stamp.Statement.{statement}
+use Rattle.node_bytes.proofs.slots.stamp.Tie as tie
+
+stamp-at-requires : tie.Need-stamp-at-requires
+stamp-at-requires c κs =
+    let a = c .before .before .before .args in is-slot (now (a .bytes)) (a .i) (sym (c .before .is-slot .ensures) ∙ c .if1 .taken)
+
+returns : tie.Need-returns
+returns c =
+    let a = c .before .before .before .before .args in
+    asked-there (λ (x : Slot). x .message .stamp) (now (a .bytes)) (a .i) (c .before .before .is-slot .ensures) (c .before .if1 .taken) (c .stamp-at .ensures)
+
+returns-2 : tie.Need-returns-2
+returns-2 c =
+    let a = c .before .before .before .args in
+    asked-empty (λ (x : Slot). x .message .stamp) (now (a .bytes)) (a .i) (c .before .is-slot .ensures) (c .if1 .left)
+
+pub stamp-spec : {M : Type 1} → statement M
+stamp-spec =
+    tie.close (tie.spec (λ c κs. search needs) stamp-at-requires returns returns-2)

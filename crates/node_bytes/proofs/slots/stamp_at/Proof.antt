@@ -1,0 +1,13 @@
+-- `stamp_at` meets its contract: the number at its place.
+use borrow.Author.Needs.{needs}
+use Rattle.node_bytes.specs.Decoding.{slotFrom}
+use Rattle.node_bytes.proofs.slots.stamp_at.Statement.{statement}
+use Rattle.node_bytes.proofs.slots.stamp_at.Tie as tie
+
+returns : tie.Need-returns
+unfolding slotFrom
+returns c = c .two-at .ensures
+
+pub stamp-at-spec : {M : Type 1} → statement M
+stamp-at-spec =
+    tie.close (tie.spec (λ c. search needs) (λ c. search needs) (λ c κs. search needs) returns)

@@ -1,0 +1,253 @@
+// A slot of a node in its bytes.
+use crate::layout;
+use crate::layout::is_slot;
+use crate::numbers::eight_at;
+use crate::numbers::flag;
+use crate::numbers::flag_at;
+use crate::numbers::four_at;
+use crate::numbers::put_eight;
+use crate::numbers::two_at;
+use node::slots::Message;
+use node::slots::Pending;
+use node::slots::Slot;
+use wire::ids::Stream;
+use wire::settings::Settings;
+ghost use mathlib.Core.Path.{_≡_};
+ghost use Prim.Native.Nat.{_+_, _≤_, _<_};
+ghost use lib.ListN.{length};
+ghost use lib.Seq.{sets};
+ghost use mathlib.Core.Bool.{true};
+ghost use Rattle.node.specs.Slots.{isFree, isOf};
+ghost use Rattle.node.specs.Nodes.{slotCount};
+ghost use Rattle.node.specs.Request.{hasPending};
+ghost use Rattle.node_bytes.specs.Layout.{slotStart, slotSize, nodeSize};
+ghost use Rattle.node_bytes.specs.Decoding.{settingsFrom, messageFrom, pendingFrom, slotAt, decode};
+ghost use Rattle.node_bytes.specs.Lent.{isNode, readSlot, storeSlot, withSlot};
+ghost use Rattle.node_bytes.specs.Encoding.{keyRow, stateRow, reachRow, encodeSlot};
+
+// ── for every buffer and every index ──
+
+// Slot i, or the empty slot where there is none.
+pub fn read_slot(bytes: &[u8], i: usize) -> Slot
+    ensures { λ r. ⌜ r ≡ readSlot (now (bytes .entry)) i ⌝ }
+{
+    if is_slot(bytes.len(), i) {
+        return slot_at(bytes, i);
+    }
+    Slot::empty()
+}
+
+// Sets slot i, and nothing where there is none.
+pub fn store_slot(bytes: &mut [u8], i: usize, slot: Slot)
+    ensures bytes { λ _. ⌜ now (bytes .exit) ≡ storeSlot i slot (now (bytes .entry)) ⌝ }
+    ensures decoded { λ _. ⌜ (isNode (now (bytes .entry)) ≡ true
+        → decode (now (bytes .exit)) ≡ withSlot i slot (decode (now (bytes .entry)))) ⌝ }
+{
+    if is_slot(bytes.len(), i) {
+        put_slot(bytes, i, slot);
+    }
+}
+
+// Whether slot i is in use for this stream.
+pub fn is_of(bytes: &[u8], i: usize, stream: Stream) -> bool
+    ensures { λ r. ⌜ r ≡ isOf stream (readSlot (now (bytes .entry)) i) ⌝ }
+{
+    if is_slot(bytes.len(), i) {
+        return of_at(bytes, i, stream);
+    }
+    false
+}
+
+pub fn is_free(bytes: &[u8], i: usize) -> bool
+    ensures { λ r. ⌜ r ≡ isFree (readSlot (now (bytes .entry)) i) ⌝ }
+{
+    if is_slot(bytes.len(), i) {
+        return free_at(bytes, i);
+    }
+    true
+}
+
+// Whether any frame is pending in slot i.
+pub fn has_pending(bytes: &[u8], i: usize) -> bool
+    ensures { λ r. ⌜ r ≡ hasPending (readSlot (now (bytes .entry)) i .pending) ⌝ }
+{
+    if is_slot(bytes.len(), i) {
+        return pending_at(bytes, i);
+    }
+    false
+}
+
+// Whether slot i holds a message.
+pub fn is_held(bytes: &[u8], i: usize) -> bool
+    ensures { λ r. ⌜ r ≡ readSlot (now (bytes .entry)) i .message .held ⌝ }
+{
+    if is_slot(bytes.len(), i) {
+        return held_at(bytes, i);
+    }
+    false
+}
+
+// The counter when it was taken up.
+pub fn stamp(bytes: &[u8], i: usize) -> u16
+    ensures { λ r. ⌜ r ≡ readSlot (now (bytes .entry)) i .message .stamp ⌝ }
+{
+    if is_slot(bytes.len(), i) {
+        return stamp_at(bytes, i);
+    }
+    0
+}
+
+// ── for a slot that is there ──
+
+pub(crate) fn slot_at(bytes: &[u8], i: usize) -> Slot
+    requires { ⌜ (length (now bytes) ≡ nodeSize) × (i < slotCount) ⌝ }
+    ensures { λ r. ⌜ r ≡ slotAt (now (bytes .entry)) i ⌝ }
+{
+    let at = layout::SLOT_SIZE * i;
+    Slot {
+        stream: Stream(four_at(bytes, layout::STREAM + at)),
+        settings: settings_from(bytes, at),
+        message: message_from(bytes, at),
+        pending: pending_from(bytes, at),
+        used: flag_at(bytes, layout::USED + at),
+    }
+}
+
+pub(crate) fn of_at(bytes: &[u8], i: usize, stream: Stream) -> bool
+    requires { ⌜ (length (now bytes) ≡ nodeSize) × (i < slotCount) ⌝ }
+    ensures { λ r. ⌜ r ≡ isOf stream (slotAt (now (bytes .entry)) i) ⌝ }
+{
+    let at = layout::SLOT_SIZE * i;
+    flag_at(bytes, layout::USED + at) & (four_at(bytes, layout::STREAM + at) == stream.0)
+}
+
+pub(crate) fn free_at(bytes: &[u8], i: usize) -> bool
+    requires { ⌜ (length (now bytes) ≡ nodeSize) × (i < slotCount) ⌝ }
+    ensures { λ r. ⌜ r ≡ isFree (slotAt (now (bytes .entry)) i) ⌝ }
+{
+    !flag_at(bytes, layout::USED + layout::SLOT_SIZE * i)
+}
+
+pub(crate) fn pending_at(bytes: &[u8], i: usize) -> bool
+    requires { ⌜ (length (now bytes) ≡ nodeSize) × (i < slotCount) ⌝ }
+    ensures { λ r. ⌜ r ≡ hasPending (slotAt (now (bytes .entry)) i .pending) ⌝ }
+{
+    let p = pending_from(bytes, layout::SLOT_SIZE * i);
+    p.any()
+}
+
+pub(crate) fn held_at(bytes: &[u8], i: usize) -> bool
+    requires { ⌜ (length (now bytes) ≡ nodeSize) × (i < slotCount) ⌝ }
+    ensures { λ r. ⌜ r ≡ slotAt (now (bytes .entry)) i .message .held ⌝ }
+{
+    flag_at(bytes, layout::HELD + layout::SLOT_SIZE * i)
+}
+
+pub(crate) fn stamp_at(bytes: &[u8], i: usize) -> u16
+    requires { ⌜ (length (now bytes) ≡ nodeSize) × (i < slotCount) ⌝ }
+    ensures { λ r. ⌜ r ≡ slotAt (now (bytes .entry)) i .message .stamp ⌝ }
+{
+    two_at(bytes, layout::STAMP + layout::SLOT_SIZE * i)
+}
+
+// Parts of the slot whose first byte stands at a place.
+fn settings_from(bytes: &[u8], at: usize) -> Settings
+    requires { ⌜ slotSize + at ≤ length (now bytes) ⌝ }
+    ensures { λ r. ⌜ r ≡ settingsFrom (now (bytes .entry)) at ⌝ }
+{
+    Settings::of(
+        bytes[layout::ROLE + at],
+        bytes[layout::CLASS + at],
+        two_at(bytes, layout::DATA_REACH + at),
+        two_at(bytes, layout::CONFIRM_DELAY + at),
+        two_at(bytes, layout::ABORT_REACH + at),
+        two_at(bytes, layout::DELIVER_DELAY + at),
+    )
+}
+
+fn message_from(bytes: &[u8], at: usize) -> Message
+    requires { ⌜ slotSize + at ≤ length (now bytes) ⌝ }
+    ensures { λ r. ⌜ r ≡ messageFrom (now (bytes .entry)) at ⌝ }
+{
+    Message {
+        stamp: two_at(bytes, layout::STAMP + at),
+        len: bytes[layout::LEN + at],
+        held: flag_at(bytes, layout::HELD + at),
+        confirmed: flag_at(bytes, layout::CONFIRMED + at),
+        bytes: eight_at(bytes, layout::PAYLOAD + at),
+    }
+}
+
+fn pending_from(bytes: &[u8], at: usize) -> Pending
+    requires { ⌜ slotSize + at ≤ length (now bytes) ⌝ }
+    ensures { λ r. ⌜ r ≡ pendingFrom (now (bytes .entry)) at ⌝ }
+{
+    Pending {
+        payload: flag_at(bytes, layout::PAYLOAD_PENDING + at),
+        confirmation: flag_at(bytes, layout::CONFIRMATION_PENDING + at),
+        abort: flag_at(bytes, layout::ABORT_PENDING + at),
+    }
+}
+
+pub(crate) fn put_slot(bytes: &mut [u8], i: usize, slot: Slot)
+    requires { ⌜ (length (now bytes) ≡ nodeSize) × (i < slotCount) ⌝ }
+    ensures { λ _. ⌜ (now (bytes .exit) ≡ sets (now (bytes .entry)) (slotStart i) (encodeSlot slot))
+        × (decode (now (bytes .exit)) ≡ withSlot i slot (decode (now (bytes .entry)))) ⌝ }
+{
+    let at = layout::SLOT_SIZE * i;
+    put_eight(bytes, layout::STREAM + at, key_row(slot));
+    put_eight(bytes, layout::PAYLOAD_PENDING + at, state_row(slot));
+    put_eight(bytes, layout::DATA_REACH + at, reach_row(slot.settings));
+    let payload = slot.message.bytes;
+    put_eight(bytes, layout::PAYLOAD + at, payload);
+}
+
+fn key_row(slot: Slot) -> [u8; 8]
+    ensures { λ r. ⌜ r ≡ keyRow slot ⌝ }
+{
+    let s = slot.stream.0;
+    let s1 = s / 256;
+    let s2 = s1 / 256;
+    let s3 = s2 / 256;
+    let stamp = slot.message.stamp;
+    [
+        (s % 256) as u8,
+        (s1 % 256) as u8,
+        (s2 % 256) as u8,
+        (s3 % 256) as u8,
+        flag(slot.used),
+        flag(slot.message.held),
+        (stamp % 256) as u8,
+        (stamp / 256 % 256) as u8,
+    ]
+}
+
+fn state_row(slot: Slot) -> [u8; 8]
+    ensures { λ r. ⌜ r ≡ stateRow slot ⌝ }
+{
+    [
+        flag(slot.pending.payload),
+        flag(slot.pending.confirmation),
+        flag(slot.pending.abort),
+        flag(slot.message.confirmed),
+        slot.message.len,
+        slot.settings.role,
+        slot.settings.class,
+        0,
+    ]
+}
+
+fn reach_row(settings: Settings) -> [u8; 8]
+    ensures { λ r. ⌜ r ≡ reachRow settings ⌝ }
+{
+    [
+        (settings.rd % 256) as u8,
+        (settings.rd / 256 % 256) as u8,
+        (settings.dc % 256) as u8,
+        (settings.dc / 256 % 256) as u8,
+        (settings.ra % 256) as u8,
+        (settings.ra / 256 % 256) as u8,
+        (settings.dd % 256) as u8,
+        (settings.dd / 256 % 256) as u8,
+    ]
+}
