@@ -7,7 +7,7 @@ use borrow.Author.Tests.{not-true}
 use Rattle.wire.specs.declared.reply.Reply.{Reply}
 use Rattle.wire.specs.Replies.{numberOf}
 use Rattle.node.specs.declared.Node.{Node}
-use Rattle.node.specs.Nodes.{Outcome, refused, Refusals, unlessRefused}
+use Rattle.node.specs.Nodes.{Outcome, refused, Refusals, unlessRefused, replyOf}
 use Rattle.node.proofs.Choices.{contrary}
 
 -- the first test that holds has this reply
@@ -45,6 +45,28 @@ refused-not-done : {tests : Refusals} {r : Reply} → refusing tests ≡ true �
 refused-not-done all (here {r} {t} {rest} e) = not-true _ (and-eq-true-iff (not (eqb (numberOf r) 0)) (refusing rest) .0 all .0)
 refused-not-done all (later {q} {r} {t} {rest} e why) =
     refused-not-done (and-eq-true-iff (not (eqb (numberOf q) 0)) (refusing rest) .0 all .1) why
+
+-- the reply of the tests says what they decide
+pub reply-refuses : (tests : Refusals) → eqb (numberOf (replyOf tests)) 0 ≡ false → Refuses tests (replyOf tests)
+reply-refuses [] e = contrary refl e
+reply-refuses ((r, t) ∷ rest) e = go t refl (reply-refuses rest) e
+  where
+    go : (b : Bool) → t ≡ b → (eqb (numberOf (replyOf rest)) 0 ≡ false → Refuses rest (replyOf rest))
+        → eqb (numberOf (cond b r (replyOf rest))) 0 ≡ false → Refuses ((r, t) ∷ rest) (cond b r (replyOf rest))
+    go true h otherwise e = here h
+    go false h otherwise e = later h (otherwise e)
+
+pub reply-passes : (tests : Refusals) → refusing tests ≡ true → eqb (numberOf (replyOf tests)) 0 ≡ true → Passes tests
+reply-passes [] all e = tt
+reply-passes ((r, t) ∷ rest) all e = go t refl (reply-passes rest (both .1)) e
+  where
+    both : (not (eqb (numberOf r) 0) ≡ true) × (refusing rest ≡ true)
+    both = and-eq-true-iff (not (eqb (numberOf r) 0)) (refusing rest) .0 all
+
+    go : (b : Bool) → t ≡ b → (eqb (numberOf (replyOf rest)) 0 ≡ true → Passes rest)
+        → eqb (numberOf (cond b r (replyOf rest))) 0 ≡ true → Passes ((r, t) ∷ rest)
+    go true h otherwise e = contrary e (not-true _ (both .0))
+    go false h otherwise e = (h, otherwise e)
 
 -- what the tests decide, either way
 pub refuses : (n : Node) (result : Outcome) {tests : Refusals} {r : Reply} → Refuses tests r → unlessRefused n tests result ≡ refused n r

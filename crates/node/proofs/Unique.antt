@@ -15,6 +15,18 @@ use Rattle.node.proofs.slots.Slot.is_receiver.Reads as is-receiver
 use Rattle.node.proofs.slots.Slot.is_sender.Reads as is-sender
 use Rattle.node.proofs.slots.Slot.is_busy.Reads as is-busy
 use Rattle.node.proofs.slots.Slot.set_up.Reads as slot-set-up
+use Rattle.node.proofs.slots.Slot.hear_reply.Reads as hear-reply
+use Rattle.node.proofs.slots.Slot.hear.Reads as slot-hear
+use Rattle.node.proofs.hear.deliver_plain.Reads as deliver-plain
+use Rattle.node.proofs.next_frame.give_payload.Reads as give-payload
+use Rattle.node.proofs.slots.Slot.request_reply.Reads as request-reply
+use Rattle.node.proofs.slots.Slot.requested.Reads as requested
+use Rattle.node.proofs.tick.next.Reads as next
+use Rattle.node.proofs.tick.age.Reads as age
+use Rattle.node.proofs.slots.Slot.due.Reads as due
+use Rattle.node.proofs.slots.Slot.may_stir.Reads as may-stir
+use Rattle.node.proofs.slots.Slot.stirs.Reads as stirs
+use Rattle.node.proofs.slots.Slot.stirred.Reads as stirred
 use Rattle.node.proofs.slots.Slot.has_frame.Reads as has-frame
 use Rattle.node.proofs.slots.Slot.lowest_code.Reads as lowest-code
 use Rattle.node.proofs.slots.Slot.given_out.Reads as given-out
@@ -47,6 +59,49 @@ next-frame-unique l input a b s t p q = same (p .0 .0) (q .0 .0)
 
 pub next-frame-content-unique : OneContent next-frame.Post (λ l e. now (e .1 .0))
 next-frame-content-unique l input a b s t p q = same (p .0 .1) (q .0 .1)
+
+-- ── a slot's steps ──
+pub hear-reply-unique : OneAnswer hear-reply.Post
+hear-reply-unique l input a b s t = same
+
+pub slot-hear-unique : OneAnswer slot-hear.Post
+slot-hear-unique l input a b s t = same
+
+pub deliver-plain-unique : OneAnswer deliver-plain.Post
+deliver-plain-unique l input a b s t p q = same (p .0) (q .0)
+
+pub deliver-plain-content-unique : OneContent deliver-plain.Post (λ l e. now (e .0))
+deliver-plain-content-unique l input a b s t p q = same (p .1) (q .1)
+
+pub give-payload-unique : OneAnswer give-payload.Post
+give-payload-unique l input a b s t p q = same (p .0) (q .0)
+
+pub give-payload-content-unique : OneContent give-payload.Post (λ l e. now (e .0))
+give-payload-content-unique l input a b s t p q = same (p .1 .0) (q .1 .0)
+
+pub request-reply-unique : OneAnswer request-reply.Post
+request-reply-unique l input a b s t = same
+
+pub requested-unique : OneAnswer requested.Post
+requested-unique l input a b s t = same
+
+pub next-unique : OneAnswer next.Post
+next-unique l input a b s t = same
+
+pub age-unique : OneAnswer age.Post
+age-unique l input a b s t = same
+
+pub due-unique : OneAnswer due.Post
+due-unique l input a b s t = same
+
+pub may-stir-unique : OneAnswer may-stir.Post
+may-stir-unique l input a b s t = same
+
+pub stirs-unique : OneAnswer stirs.Post
+stirs-unique l input a b s t = same
+
+pub stirred-unique : OneAnswer stirred.Post
+stirred-unique l input a b s t = same
 
 -- ── the leaves ──
 pub fresh-unique : OneAnswer fresh.Post

@@ -4,6 +4,7 @@ use mathlib.Core.Bool.{Bool, cond, not, _&&_}
 use mathlib.Core.List.{List, [], _∷_}
 use lib.ListN.{length}
 use lib.Dec.{eqb, ltb}
+use Rattle.wire.specs.declared.ids.Stream.{Stream}
 use Rattle.wire.specs.declared.ids.BusId.{BusId}
 use Rattle.wire.specs.declared.reply.Reply.the-variants.{BadFrame, NotMine, Misfit, Clash, ShortOutput}
 use Rattle.wire.specs.Identifiers.{streamOf, codeOf}
@@ -43,18 +44,26 @@ heardBy now code payload x =
     (cond (eqb code 2) (abortHeard x) x))
 
 -- a plain frame's record; the other codes deliver nothing yet
-unfoldable pub deliveredAtOnce : BusId → (payload : List ℕ) → List ℕ
-deliveredAtOnce id payload = cond (eqb (codeOf id) 3) (recordOf (streamOf id) payload) []
+abbrev pub plainRecord : Stream → (code : ℕ) → (payload : List ℕ) → List ℕ
+plainRecord s code payload = cond (eqb code 3) (recordOf s payload) []
 
--- what refuses a frame, at the slot of its stream
+unfoldable pub deliveredAtOnce : BusId → (payload : List ℕ) → List ℕ
+deliveredAtOnce id payload = plainRecord (streamOf id) (codeOf id) payload
+
+-- what refuses a good frame at a slot of its stream
+abbrev pub slotHearRefusals : (code : ℕ) → (payload : List ℕ) → Slot → Refusals
+slotHearRefusals code payload x =
+    (NotMine, not (isReceiver x))
+    ∷ (Misfit, not (carries (x .settings .class) code))
+    ∷ (Clash, clashes code payload x)
+    ∷ []
+
+-- what refuses a frame: the tests of output and frame, then those of the slot of its stream
 abbrev pub hearRefusals : BusId → (dlc : ℕ) → (payload output : List ℕ) → Slot → Refusals
 hearRefusals id dlc payload output x =
     (ShortOutput, ltb (length output) hearRoom)
     ∷ (BadFrame, badFrame id dlc (length payload))
-    ∷ (NotMine, not (isReceiver x))
-    ∷ (Misfit, not (carries (x .settings .class) (codeOf id)))
-    ∷ (Clash, clashes (codeOf id) payload x)
-    ∷ []
+    ∷ slotHearRefusals (codeOf id) payload x
 
 unfoldable pub hear : BusId → (dlc : ℕ) → (payload output : List ℕ) → Node → Outcome
 hear id dlc payload output n =

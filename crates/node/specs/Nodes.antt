@@ -57,6 +57,11 @@ abbrev pub unlessRefused : Node → Refusals → Outcome → Outcome
 unlessRefused n [] o = o
 unlessRefused n ((reply, test) ∷ rest) o = cond test (refused n reply) (unlessRefused n rest o)
 
+-- the reply of the first test that holds; where none does, Done
+abbrev pub replyOf : Refusals → Reply
+replyOf [] = Done
+replyOf ((reply, test) ∷ rest) = cond test reply (replyOf rest)
+
 abbrev pub done : Node → (written : List ℕ) → Outcome
 done n written = record { node = n; reply = Done; id = noId; bytes = written }
 

@@ -27,13 +27,13 @@ requested now payload x =
     (cond (isPlain (x .settings)) (keeping payload) (holding now payload))
     (toSend (isTwoMessage (x .settings)))
 
--- what refuses a request, at the slot of its stream
+-- what refuses a request of a good length at a slot of its stream
+abbrev pub slotRequestRefusals : Slot → Refusals
+slotRequestRefusals x = (NotSender, not (isSender x)) ∷ (Busy, busy x) ∷ []
+
+-- what refuses a request: the test of the payload, then those of the slot of its stream
 abbrev pub requestRefusals : (payload : List ℕ) → Slot → Refusals
-requestRefusals payload x =
-    (BadLength, ltb maxPayload (length payload))
-    ∷ (NotSender, not (isSender x))
-    ∷ (Busy, busy x)
-    ∷ []
+requestRefusals payload x = (BadLength, ltb maxPayload (length payload)) ∷ slotRequestRefusals x
 
 unfoldable pub request : Stream → (payload : List ℕ) → Node → Outcome
 request s payload n =

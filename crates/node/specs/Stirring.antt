@@ -1,5 +1,5 @@
--- What the tick's code asks of a slot first: most slots do not change at a tick. Only contracts of private functions cite this; no promise
--- rests on it.
+-- What the tick's code asks of a slot first: most slots do not change at a tick. Only contracts of a slot's steps cite this; no promise of
+-- a call rests on it.
 use Prim.Native.Nat.{ℕ}
 use mathlib.Core.Bool.{Bool, cond, not, _&&_, _||_}
 use lib.Dec.{ltb}

@@ -3,7 +3,6 @@ use crate::Delivered;
 use crate::Node;
 use crate::slots::Message;
 use crate::slots::Slot;
-use crate::slots::pad;
 use wire::class::carries;
 use wire::delivered::write_record;
 use wire::frame::bad_frame;
@@ -11,15 +10,12 @@ use wire::ids::BusId;
 use wire::ids::Stream;
 use wire::reply::Reply;
 ghost use mathlib.Core.Path.{_≡_};
-ghost use mathlib.Core.Bool.{cond};
-ghost use mathlib.Core.List.{List, []};
-ghost use Prim.Native.Nat.{_≤_};
-ghost use lib.ListN.{length};
-ghost use lib.Dec.{eqb};
+ghost use mathlib.Core.List.{List};
+ghost use lib.ListN.{length, take};
 ghost use Rattle.wire.specs.Frames.{maxPayload};
-ghost use Rattle.wire.specs.Delivered.{recordOf, over};
-ghost use Rattle.node.specs.Nodes.{asDelivered};
-ghost use Rattle.node.specs.Hear.{hearRoom, clashes, dataHeard, confirmationHeard, abortHeard, heardBy, hear};
+ghost use Rattle.wire.specs.Delivered.{over, fitting};
+ghost use Rattle.node.specs.Nodes.{replyOf, asDelivered};
+ghost use Rattle.node.specs.Hear.{clashes, dataHeard, confirmationHeard, abortHeard, heardBy, plainRecord, slotHearRefusals, hear};
 ghost use Rattle.node.specs.Clock.{rolled, unbounded};
 ghost use Rattle.node.specs.Calls.{Call, after, rollOutcome};
 
@@ -32,10 +28,25 @@ impl Slot {
         (code == 0) & m.held & !m.same(payload)
     }
 
+    // What the slot answers to a good frame of its stream.
+    pub fn hear_reply(self, code: u32, payload: &[u8]) -> Reply
+        ensures { λ r. ⌜ r ≡ replyOf (slotHearRefusals code (now (payload .entry)) self) ⌝ }
+    {
+        if !self.is_receiver() {
+            return Reply::NotMine;
+        }
+        if !carries(self.settings.class, code) {
+            return Reply::Misfit;
+        }
+        if self.clashes(code, payload) {
+            return Reply::Clash;
+        }
+        Reply::Done
+    }
+
     // Data: held, if nothing is; else it is a duplicate.
     fn hear_data(mut self, counter: u16, payload: &[u8]) -> Slot
-        requires { ⌜ length (now payload) ≤ maxPayload ⌝ }
-        ensures { λ r. ⌜ r ≡ dataHeard counter (now (payload .entry)) self ⌝ }
+        ensures { λ r. ⌜ r ≡ dataHeard counter (take maxPayload (now (payload .entry))) self ⌝ }
     {
         let mut m = self.message;
         if m.held {
@@ -76,10 +87,9 @@ impl Slot {
         self
     }
 
-    // What a receive slot makes of a frame that does not clash.
-    fn hear(self, counter: u16, code: u32, payload: &[u8]) -> Slot
-        requires { ⌜ length (now payload) ≤ maxPayload ⌝ }
-        ensures { λ r. ⌜ r ≡ heardBy counter code (now (payload .entry)) self ⌝ }
+    // What the slot makes of a frame that it does not refuse; of a payload it takes the first eight bytes.
+    pub fn hear(self, counter: u16, code: u32, payload: &[u8]) -> Slot
+        ensures { λ r. ⌜ r ≡ heardBy counter code (take maxPayload (now (payload .entry))) self ⌝ }
     {
         match code {
             0 => self.hear_data(counter, payload),
@@ -90,16 +100,16 @@ impl Slot {
     }
 }
 
-// Writes the record of a plain frame; the other codes deliver nothing yet.
-fn deliver_plain(out: &mut [u8], stream: Stream, code: u32, payload: &[u8]) -> usize
-    requires { ⌜ (length (now payload) ≤ maxPayload) × (hearRoom ≤ length (now out)) ⌝ }
-    ensures { λ r. ⌜ (r ≡ length (cond (eqb code 3) (recordOf stream (now (payload .entry))) []))
-        × (now (out .exit) ≡ over (cond (eqb code 3) (recordOf stream (now (payload .entry))) []) (now (out .entry))) ⌝ }
+// Writes the record of a plain frame, where it fits; the other codes deliver nothing yet.
+pub fn deliver_plain(out: &mut [u8], stream: Stream, code: u32, payload: &[u8]) -> usize
+    ensures answer { λ r. ⌜ r ≡ length (fitting (plainRecord stream code (take maxPayload (now (payload .entry)))) (now (out .entry))) ⌝ }
+    ensures output { λ r. ⌜ now (out .exit)
+        ≡ over (fitting (plainRecord stream code (take maxPayload (now (payload .entry)))) (now (out .entry))) (now (out .entry)) ⌝ }
 {
     if code != 3 {
         return 0;
     }
-    write_record(out, stream, pad(payload), payload.len() as u8)
+    write_record(out, stream, payload)
 }
 
 impl Node {
@@ -148,24 +158,11 @@ impl Node {
             };
         }
         let slot = self.slots[i];
-        if !slot.is_receiver() {
+        let reply = slot.hear_reply(code, payload);
+        if reply.number() != 0 {
             return Delivered {
                 node: self,
-                reply: Reply::NotMine,
-                written: 0,
-            };
-        }
-        if !carries(slot.settings.class, code) {
-            return Delivered {
-                node: self,
-                reply: Reply::Misfit,
-                written: 0,
-            };
-        }
-        if slot.clashes(code, payload) {
-            return Delivered {
-                node: self,
-                reply: Reply::Clash,
+                reply: reply,
                 written: 0,
             };
         }

@@ -12,7 +12,7 @@ ghost use mathlib.Core.List.{List};
 ghost use Prim.Native.Nat.{_≤_};
 ghost use lib.ListN.{length};
 ghost use Rattle.wire.specs.Frames.{maxPayload};
-ghost use Rattle.wire.specs.Delivered.{over};
+ghost use Rattle.wire.specs.Delivered.{over, fitting};
 ghost use Rattle.node.specs.Slots.{payloadOf};
 ghost use Rattle.node.specs.Nodes.{asGiven};
 ghost use Rattle.node.specs.NextFrame.{lowestCode, hasFrame, givenOut, payloadFor, nextFrame};
@@ -66,10 +66,11 @@ impl Slot {
     }
 }
 
-// Writes the payload of the slot's frame with this code to the front of `out`; answers its length.
-fn give_payload(out: &mut [u8], s: Slot, code: u32) -> usize
-    requires { ⌜ maxPayload ≤ length (now out) ⌝ }
-    ensures { λ r. ⌜ (r ≡ length (payloadFor code s)) × (now (out .exit) ≡ over (payloadFor code s) (now (out .entry))) ⌝ }
+// Writes the payload of the slot's frame with this code to the front of `out`, where it fits; answers its length.
+pub fn give_payload(out: &mut [u8], s: Slot, code: u32) -> usize
+    ensures answer { λ r. ⌜ r ≡ length (fitting (payloadFor code s) (now (out .entry))) ⌝ }
+    ensures output { λ r. ⌜ now (out .exit) ≡ over (fitting (payloadFor code s) (now (out .entry))) (now (out .entry)) ⌝ }
+    ensures short { λ r. ⌜ length (payloadFor code s) ≤ maxPayload ⌝ }
 {
     if (code == 1) | (code == 2) {
         return 0;
@@ -78,10 +79,14 @@ fn give_payload(out: &mut [u8], s: Slot, code: u32) -> usize
 }
 
 fn put_payload(out: &mut [u8], m: Message) -> usize
-    requires { ⌜ maxPayload ≤ length (now out) ⌝ }
-    ensures { λ r. ⌜ (r ≡ length (payloadOf m)) × (now (out .exit) ≡ over (payloadOf m) (now (out .entry))) ⌝ }
+    ensures answer { λ r. ⌜ r ≡ length (fitting (payloadOf m) (now (out .entry))) ⌝ }
+    ensures output { λ r. ⌜ now (out .exit) ≡ over (fitting (payloadOf m) (now (out .entry))) (now (out .entry)) ⌝ }
+    ensures short { λ r. ⌜ length (payloadOf m) ≤ maxPayload ⌝ }
 {
     let n = m.payload_length();
+    if out.len() < n {
+        return 0;
+    }
     let bytes = m.bytes;
     let mut i: usize = 0;
     while i < n {

@@ -10,12 +10,11 @@ use wire::settings::Settings;
 ghost use mathlib.Core.Path.{_≡_};
 ghost use mathlib.Core.Bool.{cond};
 ghost use mathlib.Core.List.{List};
-ghost use Prim.Native.Nat.{_≤_};
-ghost use lib.ListN.{length};
+ghost use lib.ListN.{take};
 ghost use Rattle.wire.specs.Frames.{maxPayload};
 ghost use Rattle.node.specs.Slots.{holding, keeping};
-ghost use Rattle.node.specs.Nodes.{asAnswered};
-ghost use Rattle.node.specs.Request.{busy, requested, request};
+ghost use Rattle.node.specs.Nodes.{replyOf, asAnswered};
+ghost use Rattle.node.specs.Request.{busy, requested, slotRequestRefusals, request};
 ghost use Rattle.node.specs.Clock.{rolled, unbounded};
 ghost use Rattle.node.specs.Calls.{Call, after, rollOutcome};
 
@@ -28,10 +27,22 @@ impl Slot {
         self.message.held | p.any()
     }
 
-    // The slot once its stream is to send this payload.
-    fn requested(mut self, counter: u16, payload: &[u8]) -> Slot
-        requires { ⌜ length (now payload) ≤ maxPayload ⌝ }
-        ensures { λ r. ⌜ r ≡ requested counter (now (payload .entry)) self ⌝ }
+    // What the slot answers to a request of a good length on its stream.
+    pub fn request_reply(self) -> Reply
+        ensures { λ r. ⌜ r ≡ replyOf (slotRequestRefusals self) ⌝ }
+    {
+        if !self.is_sender() {
+            return Reply::NotSender;
+        }
+        if self.is_busy() {
+            return Reply::Busy;
+        }
+        Reply::Done
+    }
+
+    // The slot once its stream is to send this payload, of which it takes the first eight bytes.
+    pub fn requested(mut self, counter: u16, payload: &[u8]) -> Slot
+        ensures { λ r. ⌜ r ≡ requested counter (take maxPayload (now (payload .entry))) self ⌝ }
     {
         let m = message_for(self.settings.class == Settings::PLAIN, counter, payload);
         let p = Pending::to_send(self.settings.class == Settings::TWO_MESSAGE);
@@ -43,8 +54,7 @@ impl Slot {
 
 // The message of a request: a plain one is not held.
 fn message_for(plain: bool, counter: u16, payload: &[u8]) -> Message
-    requires { ⌜ length (now payload) ≤ maxPayload ⌝ }
-    ensures { λ r. ⌜ r ≡ cond plain (keeping (now (payload .entry))) (holding counter (now (payload .entry))) ⌝ }
+    ensures { λ r. ⌜ r ≡ cond plain (keeping (take maxPayload (now (payload .entry)))) (holding counter (take maxPayload (now (payload .entry)))) ⌝ }
 {
     if plain {
         return Message::keeping(payload);
@@ -81,16 +91,11 @@ impl Node {
             };
         }
         let s = self.slots[i];
-        if !s.is_sender() {
+        let reply = s.request_reply();
+        if reply.number() != 0 {
             return Answered {
                 node: self,
-                reply: Reply::NotSender,
-            };
-        }
-        if s.is_busy() {
-            return Answered {
-                node: self,
-                reply: Reply::Busy,
+                reply: reply,
             };
         }
         let t = s.requested(self.counter, payload);

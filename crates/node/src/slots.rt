@@ -5,7 +5,6 @@ use wire::frame::at_most_payload;
 use wire::ids::Stream;
 use wire::settings::Settings;
 ghost use mathlib.Core.Path.{_≡_};
-ghost use Prim.Native.Nat.{_≤_};
 ghost use lib.ListN.{length, take};
 ghost use Rattle.wire.specs.Frames.{maxPayload};
 ghost use Rattle.node.specs.Slots.{padded, holding, keeping, payloadOf, same, toSend};
@@ -34,14 +33,13 @@ impl Message {
         bytes: [0; Message::MAX_LEN],
     };
 
-    // Taken up at this moment, unconfirmed.
+    // Taken up at this moment, unconfirmed: of a payload the first eight bytes.
     pub(crate) fn holding(counter: u16, payload: &[u8]) -> Message
-        requires { ⌜ length (now payload) ≤ maxPayload ⌝ }
-        ensures { λ r. ⌜ r ≡ holding counter (now (payload .entry)) ⌝ }
+        ensures { λ r. ⌜ r ≡ holding counter (take maxPayload (now (payload .entry))) ⌝ }
     {
         Message {
             stamp: counter,
-            len: payload.len() as u8,
+            len: at_most_payload(payload.len()) as u8,
             held: true,
             confirmed: false,
             bytes: pad(payload),
@@ -50,12 +48,11 @@ impl Message {
 
     // Not held, and kept for the frame that is pending.
     pub(crate) fn keeping(payload: &[u8]) -> Message
-        requires { ⌜ length (now payload) ≤ maxPayload ⌝ }
-        ensures { λ r. ⌜ r ≡ keeping (now (payload .entry)) ⌝ }
+        ensures { λ r. ⌜ r ≡ keeping (take maxPayload (now (payload .entry))) ⌝ }
     {
         Message {
             stamp: 0,
-            len: payload.len() as u8,
+            len: at_most_payload(payload.len()) as u8,
             held: false,
             confirmed: false,
             bytes: pad(payload),
@@ -94,7 +91,7 @@ impl Message {
 
 // The first eight bytes of a payload, with zeros after it where it is shorter.
 pub fn pad(payload: &[u8]) -> [u8; Message::MAX_LEN]
-    ensures { λ r. ⌜ r ≡ take maxPayload (padded (now (payload .entry))) ⌝ }
+    ensures { λ r. ⌜ r ≡ padded (take maxPayload (now (payload .entry))) ⌝ }
 {
     let n = at_most_payload(payload.len());
     let mut bytes = [0u8; Message::MAX_LEN];

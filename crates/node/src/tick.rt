@@ -24,14 +24,14 @@ fn wide16(x: u16) -> u32
 }
 
 // The counter after a tick.
-fn next(now: u16) -> u16
+pub fn next(now: u16) -> u16
     ensures { λ r. ⌜ r ≡ rolled .next now ⌝ }
 {
     std::num::wrapping_add_u16(now, 1)
 }
 
 // The age of a stamp, also where the counter has rolled over since.
-fn age(now: u16, stamp: u16) -> u16
+pub fn age(now: u16, stamp: u16) -> u16
     ensures { λ r. ⌜ r ≡ rolled .age now stamp ⌝ }
 {
     std::num::wrapping_sub_u16(now, stamp)
@@ -64,7 +64,7 @@ impl Slot {
     }
 
     // Held by a receiver, confirmed in 2M or IMD, and older than the deliver delay.
-    fn due(self, age: u16) -> bool
+    pub fn due(self, age: u16) -> bool
         ensures { λ r. ⌜ r ≡ due age self ⌝ }
     {
         let s = self.settings;
@@ -91,7 +91,7 @@ impl Slot {
     }
 
     // Whether the message is held and old enough that a tick may change the slot.
-    fn may_stir(self, age: u16) -> bool
+    pub fn may_stir(self, age: u16) -> bool
         ensures { λ r. ⌜ r ≡ mayStir age self ⌝ }
     {
         if !self.message.held {
@@ -108,7 +108,7 @@ impl Slot {
     }
 
     // Whether a tick changes the slot: of the three tests above only one can hold.
-    fn stirs(self, age: u16) -> bool
+    pub fn stirs(self, age: u16) -> bool
         ensures { λ r. ⌜ r ≡ stirs age self ⌝ }
     {
         let s = self.settings;
@@ -123,7 +123,7 @@ impl Slot {
     }
 
     // What a tick makes of a slot that it changes.
-    fn stirred(mut self) -> Slot
+    pub fn stirred(mut self) -> Slot
         ensures { λ r. ⌜ r ≡ stirred self ⌝ }
     {
         let s = self.settings;
@@ -185,7 +185,8 @@ impl Node {
                     self.slots[i] = old.stirred();
                     let message = old.message;
                     let bytes = message.all_bytes();
-                    at += write_record(&mut out[at..], old.stream, bytes, message.len);
+                    let n = message.payload_length();
+                    at += write_record(&mut out[at..], old.stream, &bytes[0..n]);
                 } else if old.stirs(a) {
                     self.slots[i] = old.stirred();
                 }

@@ -1,5 +1,5 @@
 -- The delivered record's length and the worked record; what writing leaves in an output, and how the writer comes to it.
-use mathlib.Core.Path.{_≡_, refl, ap}
+use mathlib.Core.Path.{_≡_, refl, ap, _∙_}
 use mathlib.Core.List.{List, [], _∷_, _++_}
 use Prim.Native.Nat.{ℕ, zero, suc, _+_, _/_, _%_, _≤_, _<_, min}
 use native.Mathlib.Nat.{zero-min, min-zero, suc-min-suc}
@@ -38,17 +38,17 @@ does-not-fit bytes out h = rw (lt-leb _ _ h)
 pub length-over : (bytes out : List ℕ) → length bytes ≤ length out → length (over bytes out) ≡ length out
 length-over bytes out h = simp (length-append, length-drop) (omega arith)
 
-take-at-most : (n : ℕ) (bytes : List ℕ) → take (min n (length bytes)) bytes ≡ take n bytes
-take-at-most zero bytes = rw zero-min
-take-at-most (suc n) [] = rw min-zero
+take-at-most : (n : ℕ) (bytes : List ℕ) → take (min (length bytes) n) bytes ≡ take n bytes
+take-at-most zero bytes = rw min-zero
+take-at-most (suc n) [] = rw zero-min
 take-at-most (suc n) (b ∷ bytes) = rw suc-min-suc (ap (λ (l : List ℕ). b ∷ l) (take-at-most n bytes))
 
--- of eight bytes no more than eight are taken
-pub cut-at-eight : (n : ℕ) (bytes : List ℕ) → length bytes ≡ 8 → take (min n 8) bytes ≡ take n bytes
-cut-at-eight n bytes eight = rw (← eight) (take-at-most n bytes)
+-- as many bytes of a payload as it may have at most are its first eight
+pub cut-at-eight : (payload : List ℕ) → take (min (length payload) maxPayload) payload ≡ take maxPayload payload
+cut-at-eight payload = take-at-most maxPayload payload
 
-pub cut-length : (s : Stream) (n : ℕ) (bytes : List ℕ) → length bytes ≡ 8 → length (recordOf s (take n bytes)) ≡ 8 + min n 8
-cut-length s n bytes eight = rw (record-length s (take n bytes), length-take n bytes, eight)
+pub cut-length : (s : Stream) (payload : List ℕ) → length (recordOf s (take maxPayload payload)) ≡ 8 + min (length payload) maxPayload
+cut-length s payload = record-length s (take maxPayload payload) ∙ omega (arith, length-take maxPayload payload)
 
 -- the eight bytes before a payload of n bytes
 abbrev pub header : Stream → ℕ → List ℕ
@@ -63,9 +63,9 @@ header-and-payload s payload small =
     rw (low, high)
 
 -- the header stored byte by byte, then the payload copied behind it, is the record over the output
-pub stored-then-pasted : (s : Stream) (out bytes : List ℕ) (n : ℕ) → n ≤ 8 → 8 + n ≤ length out → length bytes ≡ 8
+pub stored-then-pasted : (s : Stream) (out bytes : List ℕ) (n : ℕ) → n ≤ 8 → 8 + n ≤ length out → n ≤ length bytes
     → paste (sets out 0 (header s n)) 8 bytes n ≡ over (recordOf s (take n bytes)) out
-stored-then-pasted s out bytes n small room eight =
-    let long : length (take n bytes) ≡ n = length-take-le n bytes (omega arith) in
+stored-then-pasted s out bytes n small room enough =
+    let long : length (take n bytes) ≡ n = length-take-le n bytes enough in
     rw (sets-eq (header s n) out 0 (omega arith), drop-append-add (header s n) (drop 8 out) n, drop-drop n 8 out)
     (rw (record-length s (take n bytes), header-and-payload s (take n bytes) (omega arith), long))

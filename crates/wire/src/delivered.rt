@@ -30,22 +30,23 @@ pub fn record_length(payload: u32) -> RecordLength
     }
 }
 
-// Writes the record of the first `len` of the bytes to the front of `out`, and nothing where it
-// does not fit. Answers how many bytes were written.
-pub fn write_record(out: &mut [u8], stream: Stream, bytes: [u8; MAX_PAYLOAD], len: u8) -> usize
-    ensures answer { λ r. ⌜ r ≡ length (fitting (recordOf stream (take len bytes)) (now (out .entry))) ⌝ }
-    ensures output { λ r. ⌜ now (out .exit) ≡ over (fitting (recordOf stream (take len bytes)) (now (out .entry))) (now (out .entry)) ⌝ }
+// Writes the record of a payload, of which it takes the first eight bytes, to the front of `out`, and nothing
+// where it does not fit. Answers how many bytes were written.
+pub fn write_record(out: &mut [u8], stream: Stream, payload: &[u8]) -> usize
+    ensures answer { λ r. ⌜ r ≡ length (fitting (recordOf stream (take maxPayload (now (payload .entry)))) (now (out .entry))) ⌝ }
+    ensures output { λ r. ⌜ now (out .exit)
+        ≡ over (fitting (recordOf stream (take maxPayload (now (payload .entry)))) (now (out .entry))) (now (out .entry)) ⌝ }
 {
-    let n = at_most_payload(len as usize);
+    let n = at_most_payload(payload.len());
     if out.len() < RecordAt::HEAD + n {
         return 0;
     }
-    put_record(out, stream, bytes, n)
+    put_record(out, stream, payload, n)
 }
 
-fn put_record(out: &mut [u8], stream: Stream, bytes: [u8; MAX_PAYLOAD], n: usize) -> usize
-    requires { ⌜ (n ≤ maxPayload) × (8 + n ≤ length (now out)) ⌝ }
-    ensures { λ r. ⌜ (r ≡ 8 + n) × (now (out .exit) ≡ over (recordOf stream (take n bytes)) (now (out .entry))) ⌝ }
+fn put_record(out: &mut [u8], stream: Stream, payload: &[u8], n: usize) -> usize
+    requires { ⌜ (n ≤ maxPayload) × (n ≤ length (now payload)) × (8 + n ≤ length (now out)) ⌝ }
+    ensures { λ r. ⌜ (r ≡ 8 + n) × (now (out .exit) ≡ over (recordOf stream (take n (now (payload .entry)))) (now (out .entry))) ⌝ }
 {
     let s = stream.0;
     let s1 = s / 256;
@@ -61,7 +62,7 @@ fn put_record(out: &mut [u8], stream: Stream, bytes: [u8; MAX_PAYLOAD], n: usize
     out[7] = (s3 % 256) as u8;
     let mut i: usize = 0;
     while i < n {
-        out[RecordAt::HEAD + i] = bytes[i];
+        out[RecordAt::HEAD + i] = payload[i];
         i += 1;
     }
     RecordAt::HEAD + n

@@ -1,25 +1,30 @@
 -- Hearing a frame: what a frame that is not bad has, and what hear comes to on each way through its refusals.
-use mathlib.Core.Path.{_≡_, refl, sym, ap, _∙_}
-use mathlib.Core.Bool.{true, false, not}
-use mathlib.Core.List.{List, _∷_}
+use mathlib.Core.Path.{_≡_, refl, sym, _∙_}
+use mathlib.Core.Bool.{Bool, true, false, cond}
+use mathlib.Core.List.{List, [], _∷_}
 use Prim.Native.Nat.{ℕ, _≤_, _<_}
+use native.Mathlib.Omega.{arith}
 use borrow.Author.Tests.{lt-ltb, le-ltb, le-leb}
-use lib.ListN.{length, getD, set}
-use lib.Dec.{ltb}
+use lib.ListN.{length, getD, take, set}
+use lib.Seq.{take-all}
+use lib.Dec.{eqb, ltb}
+use Rattle.wire.specs.declared.ids.Stream.{Stream}
 use Rattle.wire.specs.declared.ids.BusId.{BusId}
 use Rattle.wire.specs.declared.reply.Reply.{Reply}
-use Rattle.wire.specs.declared.reply.Reply.the-variants.{Done, BadFrame, NotMine, Misfit, Clash, ShortOutput}
+use Rattle.wire.specs.declared.reply.Reply.the-variants.{Done, BadFrame, NotMine, ShortOutput}
 use Rattle.wire.specs.Identifiers.{maxBusId, streamOf, codeOf, split}
-use Rattle.wire.specs.Classes.{carries}
-use Rattle.wire.specs.Frames.{badFrame}
+use Rattle.wire.specs.Replies.{numberOf}
+use Rattle.wire.specs.Frames.{maxPayload, badFrame}
+use Rattle.wire.specs.Delivered.{recordOf, fitting}
 use Rattle.node.specs.declared.slots.Slot.{Slot}
 use Rattle.node.specs.declared.Node.{Node}
-use Rattle.node.specs.Slots.{empty, isOf, isReceiver}
-use Rattle.node.specs.Nodes.{slotOf, withSlots, refused, Refusals, done}
-use Rattle.node.specs.Hear.{hearRoom, clashes, heardBy, deliveredAtOnce, hearRefusals, hear}
-use Rattle.wire.proofs.Frames.{frame-bounds}
-use Rattle.node.proofs.Cases.{Refuses, here, later}
-use Rattle.node.proofs.hear.Cases.{hear-cases}
+use Rattle.node.specs.Slots.{empty, isOf}
+use Rattle.node.specs.Nodes.{slotOf, withSlots, refused, Refusals, replyOf, done}
+use Rattle.node.specs.Hear.{hearRoom, heardBy, plainRecord, deliveredAtOnce, slotHearRefusals, hearRefusals, hear}
+use Rattle.wire.proofs.Frames.{frame-bounds, frame-length}
+use Rattle.wire.proofs.Records.{cut-length, does-fit}
+use Rattle.node.proofs.Cases.{Refuses, here, later, reply-refuses, reply-passes}
+use Rattle.node.proofs.hear.Cases.{hear-facts, hear-cases}
 use Rattle.node.proofs.slots.Finding.{indexOf, slot-found, slot-stored, slot-missed}
 
 -- the identifier of a frame splits
@@ -27,6 +32,19 @@ pub frame-splits : (id : BusId) (dlc len : ℕ) → badFrame id dlc len ≡ fals
     → split id ≡ record { reply = Done; stream = streamOf id; code = codeOf id }
 unfolding split
 frame-splits id dlc len good = rw (le-leb (id .0) maxBusId (frame-bounds id dlc len good .identifier))
+
+-- and its payload has at most eight bytes
+pub frame-whole : (id : BusId) (dlc : ℕ) (payload : List ℕ) → badFrame id dlc (length payload) ≡ false → take maxPayload payload ≡ payload
+frame-whole id dlc payload good = take-all maxPayload payload (frame-length id dlc (length payload) good)
+
+-- whatever is delivered at once fits
+pub fits-at-once : (s : Stream) (code : ℕ) (payload output : List ℕ) → hearRoom ≤ length output
+    → fitting (plainRecord s code (take maxPayload payload)) output ≡ plainRecord s code (take maxPayload payload)
+fits-at-once s code payload output room = go (eqb code 3)
+  where
+    go : (t : Bool) → fitting (cond t (recordOf s (take maxPayload payload)) []) output ≡ cond t (recordOf s (take maxPayload payload)) []
+    go true = does-fit (recordOf s (take maxPayload payload)) output (omega (arith, cut-length s payload))
+    go false = does-fit [] output (omega arith)
 
 -- each way through the refusals, by the tests on it
 module _ (id : BusId) (dlc : ℕ) (payload output : List ℕ) (n : Node) where
@@ -58,20 +76,14 @@ module _ (id : BusId) (dlc : ℕ) (payload output : List ℕ) (n : Node) where
         there : slotOf (streamOf id) n ≡ slot
         there = sym (slot-found n (streamOf id) i found d inside)
 
-        pub not-mine : isReceiver slot ≡ false → hear id dlc payload output n ≡ refused n NotMine
-        not-mine sends = refused-at slot there (past (here (ap not sends)))
+        -- and what it answers
+        module _ (reply : Reply) (said : reply ≡ replyOf (slotHearRefusals (codeOf id) payload slot)) where
+          pub slot-refuses : eqb (numberOf reply) 0 ≡ false → hear id dlc payload output n ≡ refused n reply
+          slot-refuses e = rw said (refused-at slot there (past (reply-refuses (slotHearRefusals (codeOf id) payload slot) (rw said at e))))
 
-        module _ (mine : isReceiver slot ≡ true) where
-          pub misfit : carries (slot .settings .class) (codeOf id) ≡ false → hear id dlc payload output n ≡ refused n Misfit
-          misfit other = refused-at slot there (past (later (ap not mine) (here (ap not other))))
-
-          module _ (fit : carries (slot .settings .class) (codeOf id) ≡ true) where
-            pub clash : clashes (codeOf id) payload slot ≡ true → hear id dlc payload output n ≡ refused n Clash
-            clash other = refused-at slot there (past (later (ap not mine) (later (ap not fit) (here other))))
-
-            pub heard : clashes (codeOf id) payload slot ≡ false → {x : Slot} → x ≡ heardBy (n .counter) (codeOf id) payload slot
-                → hear id dlc payload output n ≡ done (withSlots (set (n .slots) i x) n) (deliveredAtOnce id payload)
-            heard same changed =
-                hear-cases id dlc payload output n .accepted-if
-                (rw there (record { room = room; good = good; own = mine; fits = fit; agrees = same }))
-                ∙ rw (changed, slot-stored n (streamOf id) i found (heardBy (n .counter) (codeOf id) payload) d inside)
+          pub heard : eqb (numberOf reply) 0 ≡ true → {x : Slot} → x ≡ heardBy (n .counter) (codeOf id) (take maxPayload payload) slot
+              → hear id dlc payload output n ≡ done (withSlots (set (n .slots) i x) n) (deliveredAtOnce id payload)
+          heard e changed =
+              let passed = reply-passes (slotHearRefusals (codeOf id) payload slot) refl (rw said at e) in
+              hear-cases id dlc payload output n .accepted-if (rw there (hear-facts id dlc payload output slot (le-ltb _ _ room, (good, passed))))
+              ∙ rw (changed, frame-whole id dlc payload good, slot-stored n (streamOf id) i found (heardBy (n .counter) (codeOf id) payload) d inside)

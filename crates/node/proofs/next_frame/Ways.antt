@@ -10,7 +10,9 @@ use Rattle.wire.specs.declared.reply.Reply.{Reply}
 use Rattle.wire.specs.declared.reply.Reply.the-variants.{Done, ShortOutput, Nothing}
 use Rattle.wire.specs.declared.ids.Joined.{Joined}
 use Rattle.wire.specs.Identifiers.{join}
-use Rattle.wire.specs.Delivered.{over}
+use Rattle.wire.specs.Frames.{maxPayload}
+use Rattle.wire.specs.Delivered.{over, fitting}
+use Rattle.wire.proofs.Records.{does-fit}
 use Rattle.node.specs.declared.slots.Slot.{Slot}
 use Rattle.node.specs.declared.Node.{Node}
 use Rattle.node.specs.declared.Given.{Given}
@@ -68,6 +70,9 @@ module _ (output : List ℕ) (n : Node) where
 
       pub frame-given : (x : Slot) (joined : Joined) (len : ℕ) (written : List ℕ)
           → joined ≡ join (here-found .stream) code → x ≡ givenOut code here-found
-          → len ≡ length (payloadFor code here-found) → written ≡ over (payloadFor code here-found) output
+          → length (payloadFor code here-found) ≤ maxPayload → len ≡ length (fitting (payloadFor code here-found) output)
+          → written ≡ over (fitting (payloadFor code here-found) output) output
           → Answers (record { node = withSlots (set (n .slots) i x) n; reply = Done; id = joined .id; len = len }) written
-      frame-given x joined len written id made long copied = rw (long, copied) (answers _ (frame x joined id made))
+      frame-given x joined len written id made small long copied =
+          let fits = does-fit (payloadFor code here-found) output (omega arith) in
+          rw (long, copied, fits) (answers _ (frame x joined id made))

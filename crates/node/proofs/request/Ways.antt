@@ -1,22 +1,25 @@
 -- The ways through a request: on each of them what is answered is what the definition says.
-use mathlib.Core.Path.{_≡_, refl, sym, ap, _∙_}
-use mathlib.Core.Bool.{true, false, not}
+use mathlib.Core.Path.{_≡_, refl, sym, _∙_}
+use mathlib.Core.Bool.{true, false}
 use mathlib.Core.List.{List, []}
 use Prim.Native.Nat.{ℕ, _≤_, _<_}
-use lib.ListN.{length, getD, set}
+use lib.ListN.{length, getD, take, set}
+use lib.Seq.{take-all}
+use lib.Dec.{eqb}
 use borrow.Author.Tests.{lt-ltb, le-ltb}
 use Rattle.wire.specs.Frames.{maxPayload}
 use Rattle.wire.specs.declared.ids.Stream.{Stream}
 use Rattle.wire.specs.declared.reply.Reply.{Reply}
-use Rattle.wire.specs.declared.reply.Reply.the-variants.{BadLength, NotSender, Busy}
+use Rattle.wire.specs.declared.reply.Reply.the-variants.{BadLength, NotSender}
+use Rattle.wire.specs.Replies.{numberOf}
 use Rattle.node.specs.declared.slots.Slot.{Slot}
 use Rattle.node.specs.declared.Node.{Node}
-use Rattle.node.specs.Slots.{empty, isOf, isSender}
-use Rattle.node.specs.Nodes.{slotOf, withSlots, Outcome, refused, done, asAnswered}
-use Rattle.node.specs.Request.{busy, requested, requestRefusals, request}
+use Rattle.node.specs.Slots.{empty, isOf}
+use Rattle.node.specs.Nodes.{slotOf, withSlots, Outcome, refused, replyOf, done, asAnswered}
+use Rattle.node.specs.Request.{requested, slotRequestRefusals, requestRefusals, request}
 use Rattle.node.specs.Calls.{Call}
-use Rattle.node.proofs.Cases.{Refuses, here, later}
-use Rattle.node.proofs.request.Cases.{request-cases}
+use Rattle.node.proofs.Cases.{Refuses, here, later, reply-refuses, reply-passes}
+use Rattle.node.proofs.request.Cases.{request-facts, request-cases}
 use Rattle.node.proofs.slots.Finding.{indexOf, slot-found, slot-stored, slot-missed}
 use Rattle.node.proofs.rollover.Promises.{Promised, promised}
 
@@ -37,19 +40,22 @@ module _ (s : Stream) (payload : List ℕ) (n : Node) where
     pub no-slot : length (n .slots) ≤ i → Answers (refused n NotSender)
     no-slot h = refused-at empty (slot-missed n s i found h) (later (le-ltb _ _ short) (here refl))
 
+    -- the slot of the stream, as it stands in the table, and what it answers
     module _ (d : Slot) (inside : i < length (n .slots)) where
-      there : slotOf s n ≡ getD (n .slots) i d
+      abbrev slot : Slot
+      slot = getD (n .slots) i d
+
+      there : slotOf s n ≡ slot
       there = sym (slot-found n s i found d inside)
 
-      pub not-a-sender : isSender (getD (n .slots) i d) ≡ false → Answers (refused n NotSender)
-      not-a-sender receives = refused-at _ there (later (le-ltb _ _ short) (here (ap not receives)))
+      module _ (reply : Reply) (said : reply ≡ replyOf (slotRequestRefusals slot)) where
+        pub slot-refuses : eqb (numberOf reply) 0 ≡ false → Answers (refused n reply)
+        slot-refuses e = rw said (refused-at slot there (later (le-ltb _ _ short) (reply-refuses (slotRequestRefusals slot) (rw said at e))))
 
-      pub busy-sender : isSender (getD (n .slots) i d) ≡ true → busy (getD (n .slots) i d) ≡ true → Answers (refused n Busy)
-      busy-sender sends held = refused-at _ there (later (le-ltb _ _ short) (later (ap not sends) (here held)))
-
-      pub request-taken : (x : Slot) → isSender (getD (n .slots) i d) ≡ true → busy (getD (n .slots) i d) ≡ false
-          → x ≡ requested (n .counter) payload (getD (n .slots) i d) → Answers (done (withSlots (set (n .slots) i x) n) [])
-      request-taken x sends free made =
-          let taken = request-cases payload s n .accepted-if (rw there (record { short = short; own = sends; free = free })) in
-          answers (done (withSlots (set (n .slots) i x) n) [])
-          (sym (taken ∙ rw (made, slot-stored n s i found (requested (n .counter) payload) d inside)))
+        pub request-taken : (x : Slot) → eqb (numberOf reply) 0 ≡ true → x ≡ requested (n .counter) (take maxPayload payload) slot
+            → Answers (done (withSlots (set (n .slots) i x) n) [])
+        request-taken x e made =
+            let passed = reply-passes (slotRequestRefusals slot) refl (rw said at e) in
+            let taken = request-cases payload s n .accepted-if (rw there (request-facts payload slot (le-ltb _ _ short, passed))) in
+            answers (done (withSlots (set (n .slots) i x) n) [])
+            (sym (taken ∙ rw (made, take-all maxPayload payload short, slot-stored n s i found (requested (n .counter) payload) d inside)))

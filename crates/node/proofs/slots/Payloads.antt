@@ -2,7 +2,7 @@
 use mathlib.Core.Path.{_≡_, refl, sym, ap, _∙_}
 use mathlib.Core.Bool.{Bool, true, false, _&&_}
 use mathlib.Core.List.{List, [], _∷_, _++_, append-nil}
-use Prim.Native.Nat.{ℕ, suc, _+_, _≤_, _<_, min}
+use Prim.Native.Nat.{ℕ, suc, _+_, _-_, _≤_, _<_, min}
 use native.Mathlib.Nat.{zero-add}
 use native.Mathlib.Numerals.{add-one}
 use native.Mathlib.Omega.{arith}
@@ -12,6 +12,7 @@ use lib.Dec.{eqb, leb}
 use borrow.Author.Tests.{eq-eqb, ne-eqb, leb-true, leb-false}
 use Rattle.wire.specs.Frames.{maxPayload}
 use Rattle.wire.specs.Delivered.{over}
+use Rattle.wire.proofs.Records.{cut-at-eight}
 use Rattle.node.specs.declared.slots.Message.{Message}
 use Rattle.node.specs.Slots.{padded, payloadOf, sameBytes, same}
 
@@ -74,26 +75,12 @@ copy-next output bytes i here room = rw add-one (simp zero-add at (paste-suc out
 abbrev pub filled : List ℕ → ℕ → List ℕ
 filled payload i = copied (replicate maxPayload 0) payload i
 
--- a payload of at most eight bytes is padded whole
-pub padded-length : (payload : List ℕ) → length payload ≤ maxPayload → length (padded payload) ≡ maxPayload
-padded-length payload h = simp (length-append, length-drop) (omega arith)
+-- a payload is cut to as many bytes as it may have at most
+pub cut-payload-length : (payload : List ℕ) → length (take maxPayload payload) ≡ min (length payload) maxPayload
+cut-payload-length payload = omega (arith, length-take maxPayload payload)
 
-pub padded-whole : (payload : List ℕ) → length payload ≤ maxPayload → take maxPayload (padded payload) ≡ padded payload
-padded-whole payload h = take-all maxPayload (padded payload) (omega (arith, padded-length payload h))
-
-pub filled-whole : (payload : List ℕ) (n : ℕ) → n ≡ min (length payload) maxPayload
-    → filled payload n ≡ take maxPayload (padded payload)
-filled-whole payload n e = go (leb (length payload) maxPayload) refl
-  where
-    go : (t : Bool) → leb (length payload) maxPayload ≡ t → filled payload n ≡ take maxPayload (padded payload)
-    go true small =
-        let h = leb-true (length payload) maxPayload small in
-        let whole : n ≡ length payload = omega arith in
-        rw (padded-whole payload h, whole, take-length payload)
-    go false large =
-        let h : maxPayload ≤ length payload = omega (arith, leb-false (length payload) maxPayload large) in
-        let cut : n ≡ maxPayload = omega arith in
-        rw (take-append-le maxPayload payload (drop (length payload) (replicate maxPayload 0)) h, cut, append-nil)
+pub filled-whole : (payload : List ℕ) (n : ℕ) → n ≡ min (length payload) maxPayload → filled payload n ≡ padded (take maxPayload payload)
+filled-whole payload n e = rw (cut-payload-length payload, e, cut-at-eight payload)
 
 -- ── the payload of a message, which has eight bytes ──
 pub payload-length : (m : Message) → length (m .bytes) ≡ maxPayload → length (payloadOf m) ≡ min (m .len) maxPayload
@@ -102,6 +89,19 @@ payload-length m eight = rw (length-take (m .len) (m .bytes), eight)
 take-as-many : (n : ℕ) (bytes : List ℕ) → take (length (take n bytes)) bytes ≡ take n bytes
 take-as-many n bytes =
     ap (take (length (take n bytes))) (sym (take-append-drop n bytes)) ∙ take-append-seam (take n bytes) (drop n bytes)
+
+-- it is lent as a part of them
+module _ (m : Message) (bytes : List ℕ) (all : (bytes ≡ m .bytes) × (length bytes ≡ maxPayload)) (n : ℕ) (e : n ≡ length (payloadOf m)) where
+  short : length (payloadOf m) ≤ maxPayload
+  short = omega (arith, payload-length m (rw (all .0) at (all .1)))
+
+  pub part-within : n ≤ length bytes
+  part-within = omega (arith, all .1, short)
+
+  pub part-is-payload : take maxPayload (take (n - 0) bytes) ≡ payloadOf m
+  part-is-payload =
+      let whole : n - 0 ≡ length (payloadOf m) = omega arith in
+      rw (whole, all .0, take-as-many (m .len) (m .bytes)) (take-all maxPayload (payloadOf m) short)
 
 pub copied-payload : (m : Message) (output : List ℕ) (n : ℕ) → n ≡ length (payloadOf m) → copied output (m .bytes) n ≡ over (payloadOf m) output
 copied-payload m output n e = rw (e, take-as-many (m .len) (m .bytes))

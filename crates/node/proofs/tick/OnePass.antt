@@ -7,16 +7,19 @@ use native.Mathlib.Omega.{arith}
 use native.Mathlib.Numerals.{add-one}
 use lib.ListN.{length, take, drop, getD, set, length-append, length-drop, drop-of-length-le}
 use lib.Seq.{take-all, drop-drop, drop-cons, take-at, drop-at}
+use Rattle.wire.specs.Frames.{maxPayload}
 use Rattle.wire.specs.Delivered.{recordOf, over, fitting}
 use Rattle.wire.proofs.Records.{cut-length, does-fit}
 use Rattle.node.specs.declared.slots.Slot.{Slot}
 use Rattle.node.specs.declared.Node.{Node}
+use Rattle.node.specs.Slots.{payloadOf}
 use Rattle.node.specs.Nodes.{slotCount, withSlots}
 use Rattle.node.specs.Clock.{Clock}
 use Rattle.node.specs.Hear.{hearRoom}
 use Rattle.node.specs.Tick.{tickRoom, due, ageOf, tickSlot, dueSlots, recordFrom, recordsFrom}
 use Rattle.node.specs.Stirring.{stirs, stirred}
 use Rattle.node.proofs.tick.Stirring.{still-stays, stirring-lapses}
+use Rattle.node.proofs.slots.Payloads.{part-within, part-is-payload}
 use Rattle.node.proofs.slots.Upward.{changed, all-changed, changed-not-yet, changed-one-more, changed-one-kept}
 
 -- ── lapsing ──
@@ -127,13 +130,16 @@ module _ {clock : Clock} {now : ℕ} {slots : List Slot} {out₀ out : List ℕ}
       abbrev part : List ℕ
       part = take (length out - at) (drop at out)
 
-      -- the record writer is handed the part, and eight bytes
-      module _ (bytes : List ℕ) (b : (bytes ≡ x .message .bytes) × (length bytes ≡ 8)) where
+      -- the record writer is handed the part, and as many of eight bytes as the payload has
+      module _ (bytes : List ℕ) (b : (bytes ≡ x .message .bytes) × (length bytes ≡ maxPayload)) (n : ℕ) (e : n ≡ length (payloadOf (x .message))) where
+        pub lent-within : n ≤ length bytes
+        lent-within = part-within (x .message) bytes b n e
+
         abbrev asked : List ℕ
-        asked = recordOf (x .stream) (take (x .message .len) bytes)
+        asked = recordOf (x .stream) (take maxPayload (take (n - 0) bytes))
 
         asked-is-small : length asked ≤ hearRoom
-        asked-is-small = omega (arith, cut-length (x .stream) (x .message .len) bytes (b .1))
+        asked-is-small = omega (arith, cut-length (x .stream) (take (n - 0) bytes))
 
         asked-fits : fitting asked part ≡ asked
         asked-fits =
@@ -148,12 +154,12 @@ module _ {clock : Clock} {now : ℕ} {slots : List Slot} {out₀ out : List ℕ}
         pub one-is-written : due age x ≡ true → (r : ℕ) (back : List ℕ) → (r ≡ length (fitting asked part)) × (back ≡ over (fitting asked part) part)
             → Writing clock now slots out₀ (take at out ++ (back ++ drop (length out - at) (drop at out))) (i + 1) (at + r)
         unfolding dueSlots recordsFrom
-        one-is-written e r back wrote =
-            let record-is : asked ≡ recordFrom x = rw (b .0) in
+        one-is-written is-due r back wrote =
+            let record-is : asked ≡ recordFrom x = rw (part-is-payload (x .message) bytes b n e) in
             let size : r ≡ length (recordFrom x) = wrote .0 ∙ ap length (asked-fits ∙ record-is) in
             let writes : back ≡ over (recordFrom x) part = rw (asked-fits, record-is) at (wrote .1) in
             let small = written-is-small r (wrote .0) in
-            let whole = rw (one-more, ← a, e) at (w .whole) in
+            let whole = rw (one-more, ← a, is-due) at (w .whole) in
             record {
               many = w .many;
               long = w .long;

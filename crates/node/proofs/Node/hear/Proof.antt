@@ -1,27 +1,26 @@
 -- `Node::hear` meets its contract: the loop finds the slot's index, and each return gives the outcome that the tests on its way lead to.
 use borrow.Author.Needs.{needs}
-use borrow.Author.Tests.{not-true, not-false}
+use borrow.Author.Tests.{eq-eqb, ne-eqb}
 use native.Mathlib.Omega.{arith}
-use mathlib.Core.Path.{_≡_, refl, sym, _∙_}
-use mathlib.Core.Bool.{true, false}
+use mathlib.Core.Path.{_≡_, refl, sym, ap, _∙_}
+use mathlib.Core.Bool.{false}
 use mathlib.Core.List.{List}
 use Prim.Native.Nat.{ℕ, _-_, _≤_, _<_}
 use denote.Ref.{now}
 use lib.ListN.{length, getD}
+use lib.Dec.{eqb}
 use Rattle.wire.specs.declared.ids.Parts.{Parts}
 use Rattle.wire.specs.declared.reply.Reply.the-variants.{Done}
 use Rattle.wire.specs.Identifiers.{streamOf, codeOf}
-use Rattle.wire.specs.Classes.{carries}
-use Rattle.wire.specs.Frames.{maxPayload, badFrame}
+use Rattle.wire.specs.Frames.{badFrame}
 use Rattle.node.specs.declared.slots.Slot.{Slot}
 use Rattle.node.specs.declared.Node.{Node}
-use Rattle.node.specs.Slots.{isOf, isReceiver}
-use Rattle.node.specs.Nodes.{asDelivered}
-use Rattle.node.specs.Hear.{hearRoom, deliveredAtOnce}
+use Rattle.node.specs.Slots.{isOf}
+use Rattle.node.specs.Nodes.{replyOf, asDelivered}
+use Rattle.node.specs.Hear.{hearRoom, deliveredAtOnce, slotHearRefusals}
 use Rattle.node.specs.Calls.{Call}
-use Rattle.wire.proofs.Frames.{frame-length}
 use Rattle.node.proofs.slots.Finding.{noSlot, length-of-mapped, indexOf, NoneBefore, none-at-first, not-here, search-ends}
-use Rattle.node.proofs.hear.Ways.{frame-splits, short-output, bad-frame, no-slot, not-mine, misfit, clash, heard}
+use Rattle.node.proofs.hear.Ways.{frame-splits, frame-whole, fits-at-once, short-output, bad-frame, no-slot, slot-refuses, heard}
 use Rattle.node.proofs.rollover.Promises.{promised-both}
 use Rattle.node.proofs.Node.hear.Statement.{statement}
 use Rattle.node.proofs.Node.hear.Tie as tie
@@ -75,9 +74,6 @@ module _ (c : tie.Else2 Inv-loop μ-loop) where
   good : badFrame (start-2 c .args .id) (start-2 c .args .dlc) (length (payload (start-2 c))) ≡ false
   good = sym (c .before .bad-frame .ensures) ∙ c .if2 .left
 
-  small : length (payload (start-2 c)) ≤ maxPayload
-  small = frame-length (start-2 c .args .id) (start-2 c .args .dlc) (length (payload (start-2 c))) good
-
 abbrev parts : tie.Start Inv-loop μ-loop → Parts
 parts s = record { reply = Done; stream = streamOf (s .args .id); code = codeOf (s .args .id) }
 
@@ -125,76 +121,43 @@ module _ (c : tie.Else4 Inv-loop μ-loop) where
   inside : c .before .before .loop .i < length (node start-4 .slots)
   inside = omega (arith, long start-4)
 
+-- it answers as its refusals say
+answers : (c : tie.After-hear-reply Inv-loop μ-loop)
+    → c .hear-reply .result
+    ≡ replyOf (slotHearRefusals (codeOf (start-4 (c .before .before) .args .id)) (payload (start-4 (c .before .before))) (slot (c .before .before)))
+answers c = rw (splits (c .before .before .before .before .before .before)) at (c .hear-reply .ensures)
+
 returns-4 : tie.Need-returns-4 Inv-loop μ-loop
 returns-4 c =
-    let r = c .before in
-    let o = r .before .before in
+    let q = c .before in
+    let a = q .before in
+    let o = a .before .before in
     let b = o .before .before .before .before .before in
     let s = start-4 o in
-    let sends = sym (r .is-receiver .ensures) ∙ not-true _ (c .if5 .taken) in
-    promised-both (call s) (node s) asDelivered (output s) (not-mine _ _ _ _ _ (room b) (good b) _ (found (o .before)) noSlot (inside o) sends) refl refl
-
--- where the slot was found, seen from past the fourth test; `place-5` from past the fifth
-abbrev place-4 : tie.Else5 Inv-loop μ-loop → tie.Else4 Inv-loop μ-loop
-place-4 c = c .before .before .before
-
-mine : (c : tie.Else5 Inv-loop μ-loop) → isReceiver (slot (place-4 c)) ≡ true
-mine c = sym (c .before .is-receiver .ensures) ∙ not-false _ (c .if5 .left)
-
-returns-5 : tie.Need-returns-5 Inv-loop μ-loop
-returns-5 c =
-    let k = c .before in
-    let o = place-4 (k .before) in
-    let b = o .before .before .before .before .before in
-    let s = start-4 o in
-    let other = sym (rw (splits (o .before .before .before .before)) at (k .carries .ensures)) ∙ not-true _ (c .if6 .taken) in
+    let refuses = ap (λ (k : ℕ). eqb k 0) (sym (q .number .ensures)) ∙ ne-eqb _ _ (c .if5 .taken) in
     promised-both (call s) (node s) asDelivered (output s)
-    (misfit _ _ _ _ _ (room b) (good b) _ (found (o .before)) noSlot (inside o) (mine (k .before)) other)
-    refl refl
-
-abbrev place-5 : tie.Else6 Inv-loop μ-loop → tie.Else4 Inv-loop μ-loop
-place-5 c = place-4 (c .before .before)
-
-fits : (c : tie.Else6 Inv-loop μ-loop) → carries (slot (place-5 c) .settings .class) (codeOf (start-4 (place-5 c) .args .id)) ≡ true
-fits c = sym (rw (splits (place-5 c .before .before .before .before)) at (c .before .carries .ensures)) ∙ not-false _ (c .if6 .left)
-
-returns-6 : tie.Need-returns-6 Inv-loop μ-loop
-returns-6 c =
-    let l = c .before in
-    let k = l .before .before in
-    let o = place-5 (l .before) in
-    let b = o .before .before .before .before .before in
-    let s = start-4 o in
-    let other = sym (rw (splits (o .before .before .before .before)) at (l .clashes .ensures)) ∙ c .if7 .taken in
-    promised-both (call s) (node s) asDelivered (output s)
-    (clash _ _ _ _ _ (room b) (good b) _ (found (o .before)) noSlot (inside o) (mine (k .before)) (fits (l .before)) other)
+    (slot-refuses _ _ _ _ _ (room b) (good b) _ (found (o .before)) noSlot (inside o) _ (answers a) refuses)
     refl refl
 
 -- ── it hears ──
-hear-requires : tie.Need-hear-requires Inv-loop μ-loop
-hear-requires c κs = small (place-5 (c .before .before) .before .before .before .before .before)
-
-deliver-plain-requires : tie.Need-deliver-plain-requires Inv-loop μ-loop
-deliver-plain-requires c κs =
-    let b = place-5 (c .before .before .before .before) .before .before .before .before .before in
-    (small b, room b)
-
-returns-7 : tie.Need-returns-7 Inv-loop μ-loop
+returns-5 : tie.Need-returns-5 Inv-loop μ-loop
 unfolding deliveredAtOnce
-returns-7 c =
+returns-5 c =
     let w = c .before .before in
     let h = w .before .before in
-    let l = h .before .before in
-    let k = l .before .before in
-    let o = place-5 (l .before) in
+    let q = h .before .before in
+    let a = q .before in
+    let o = a .before .before in
     let b = o .before .before .before .before .before in
     let s = start-4 o in
     let p = splits (o .before .before .before .before) in
-    let same = sym (rw p at (l .clashes .ensures)) ∙ h .before .if7 .left in
+    let takes = ap (λ (k : ℕ). eqb k 0) (sym (q .number .ensures)) ∙ eq-eqb _ _ (h .before .if5 .left) in
     let changed = rw p at (h .hear .ensures) in
-    let written = rw p at (w .deliver-plain .ensures) in
+    let written =
+    rw (p, fits-at-once _ _ (payload s) (output s) (room b), frame-whole (s .args .id) (s .args .dlc) (payload s) (good b)) at
+    (w .deliver-plain .ensures) in
     promised-both (call s) (node s) asDelivered (output s)
-    (heard _ _ _ _ _ (room b) (good b) _ (found (o .before)) noSlot (inside o) (mine (k .before)) (fits (l .before)) same changed)
+    (heard _ _ _ _ _ (room b) (good b) _ (found (o .before)) noSlot (inside o) _ (answers a) takes changed)
     (rw (written .0))
     (written .1)
 
@@ -219,14 +182,11 @@ hear-spec =
     (λ c. search needs)
     (λ c. search needs)
     (λ c κs. search needs)
+    (λ c κs. search needs)
     returns-4
     (λ c κs. search needs)
-    returns-5
+    (λ c. search needs)
+    (λ c. search needs)
     (λ c κs. search needs)
-    returns-6
-    hear-requires
     (λ c. search needs)
-    (λ c. search needs)
-    deliver-plain-requires
-    (λ c. search needs)
-    returns-7)
+    returns-5)

@@ -60,7 +60,8 @@ returns-3 c =
     let start = f .before .before .before .before in
     let a = start .args in
     frame-given (now (a .out)) (a .t1) (f .before .before .if1 .left) _ (found f) (omega (arith, long start)) _ _ (code .lowest-code .ensures)
-    _ _ _ _ (j .join .ensures) (c .given-out .ensures) (g .give-payload .ensures .0) (g .give-payload .ensures .1)
+    _ _ _ _ (j .join .ensures) (c .given-out .ensures) (g .give-payload .ensures .1 .1)
+    (g .give-payload .ensures .0) (g .give-payload .ensures .1 .0)
 
 pub next-frame-spec : {M : Type 1} → statement M
 next-frame-spec =

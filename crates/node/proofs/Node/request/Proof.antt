@@ -1,13 +1,14 @@
 -- `Node::request` meets its contract: the loop finds the slot's index, and each return cites the way through the definition.
 use native.Mathlib.Omega.{arith}
-use mathlib.Core.Path.{_≡_, sym, _∙_}
-use Prim.Native.Nat.{_-_}
-use borrow.Author.Tests.{not-true, not-false}
+use mathlib.Core.Path.{_≡_, sym, ap, _∙_}
+use Prim.Native.Nat.{ℕ, _-_}
+use borrow.Author.Tests.{eq-eqb, ne-eqb}
 use lib.ListN.{length}
+use lib.Dec.{eqb}
 use denote.Ref.{now}
 use Rattle.node.specs.Slots.{isOf}
 use Rattle.node.proofs.slots.Finding.{length-of-mapped, indexOf, NoneBefore, none-at-first, not-here, search-ends}
-use Rattle.node.proofs.request.Ways.{too-long, no-slot, not-a-sender, busy-sender, request-taken}
+use Rattle.node.proofs.request.Ways.{too-long, no-slot, slot-refuses, request-taken}
 use borrow.Author.Needs.{needs}
 use Rattle.node.proofs.Node.request.Statement.{statement}
 use Rattle.node.proofs.Node.request.Tie as tie
@@ -53,30 +54,23 @@ returns-2 c =
 
 returns-3 : tie.Need-returns-3 Inv-loop μ-loop
 returns-3 c =
-    let f = c .before .before .before .before in
+    let q = c .before in
+    let f = q .before .before .before .before in
     let start = f .before .before .before .before in
     let a = start .args in
-    not-a-sender (a .stream) (now (a .payload)) (a .t1) (f .before .before .if1 .left) _ (found f) _ (omega (arith, long start))
-    (sym (c .before .is-sender .ensures) ∙ not-true _ (c .if4 .taken))
+    slot-refuses (a .stream) (now (a .payload)) (a .t1) (f .before .before .if1 .left) _ (found f) _ (omega (arith, long start)) _
+    (q .before .request-reply .ensures)
+    (ap (λ (k : ℕ). eqb k 0) (sym (q .number .ensures)) ∙ ne-eqb _ _ (c .if4 .taken))
 
 returns-4 : tie.Need-returns-4 Inv-loop μ-loop
 returns-4 c =
-    let f = c .before .before .before .before .before .before in
-    let start = f .before .before .before .before in
-    let a = start .args in
-    busy-sender (a .stream) (now (a .payload)) (a .t1) (f .before .before .if1 .left) _ (found f) _ (omega (arith, long start))
-    (sym (c .before .before .before .is-sender .ensures) ∙ not-false _ (c .before .before .if4 .left))
-    (sym (c .before .is-busy .ensures) ∙ c .if5 .taken)
-
-returns-5 : tie.Need-returns-5 Inv-loop μ-loop
-returns-5 c =
-    let t = c .before in
-    let f = t .before .before .before .before .before .before in
+    let q = c .before .before in
+    let f = q .before .before .before .before in
     let start = f .before .before .before .before in
     let a = start .args in
     request-taken (a .stream) (now (a .payload)) (a .t1) (f .before .before .if1 .left) _ (found f) _ (omega (arith, long start)) _
-    (sym (t .before .before .before .is-sender .ensures) ∙ not-false _ (t .before .before .if4 .left))
-    (sym (t .before .is-busy .ensures) ∙ t .if5 .left)
+    (q .before .request-reply .ensures) _
+    (ap (λ (k : ℕ). eqb k 0) (sym (q .number .ensures)) ∙ eq-eqb _ _ (c .before .if4 .left))
     (c .requested .ensures)
 
 pub request-spec : {M : Type 1} → statement M
@@ -97,10 +91,9 @@ request-spec =
     (λ c. search needs)
     (λ c. search needs)
     (λ c κs. search needs)
+    (λ c κs. search needs)
     returns-3
     (λ c κs. search needs)
-    returns-4
-    (λ c κs. search needs)
     (λ c. search needs)
     (λ c. search needs)
-    returns-5)
+    returns-4)

@@ -12,7 +12,7 @@ use Rattle.node.proofs.slots.Finding.{noSlot, length-of-mapped}
 use Rattle.node.proofs.tick.Stirring.{young-is-still, still-is-not-due, due-stirs}
 use Rattle.node.proofs.tick.OnePass.{Lapsing, lapsing-at-first, all-lapsed, slot-as-it-was, one-stays, one-lapses}
 use Rattle.node.proofs.tick.OnePass.{Writing, writing-at-first, all-written, writing-keeps-length, has-room, written-is-small}
-use Rattle.node.proofs.tick.OnePass.{one-is-not-due, one-is-written}
+use Rattle.node.proofs.tick.OnePass.{one-is-not-due, lent-within, one-is-written}
 use Rattle.node.proofs.tick.Ways.{exact-and-unbounded, tick-refused, tick-done}
 use Rattle.node.proofs.Node.tick.Statement.{statement}
 use Rattle.node.proofs.Node.tick.Tie as tie
@@ -38,20 +38,35 @@ loop-holds c =
 room : (c : tie.In-loop Inv-loop μ-loop) → c .before .loop .at + hearRoom ≤ length (c .before .loop .out)
 room c = has-room (c .before .loop .inv .2) noSlot (c .loop-test .taken)
 
-add-at : tie.Need-add-at Inv-loop μ-loop
-add-at c =
-    let made = c .before .before .before .before in
+payload-end : tie.Need-part-write-record-end-2 Inv-loop μ-loop
+payload-end c =
+    let counted = c .before .before in
+    let made = counted .before in
     let aged = made .before .before .before .before .before .before .before .before in
     let turn = aged .before .before in
     let h = turn .loop-test .taken in
     let l = turn .before .loop .inv in
     let same = slot-as-it-was (l .1) noSlot h in
-    let small = written-is-small (l .2) noSlot h _ same _ (aged .age .ensures) _ (made .all-bytes .ensures) _ (c .before .before .write-record .ensures .0) in
+    lent-within (l .2) noSlot h _ same _ (aged .age .ensures) _ (made .all-bytes .ensures) _ (counted .payload-length .ensures)
+
+add-at : tie.Need-add-at Inv-loop μ-loop
+add-at c =
+    let counted = c .before .before .before .before .before .before in
+    let made = counted .before in
+    let aged = made .before .before .before .before .before .before .before .before in
+    let turn = aged .before .before in
+    let h = turn .loop-test .taken in
+    let l = turn .before .loop .inv in
+    let same = slot-as-it-was (l .1) noSlot h in
+    let small =
+    written-is-small (l .2) noSlot h _ same _ (aged .age .ensures) _ (made .all-bytes .ensures) _ (counted .payload-length .ensures) _
+    (c .before .before .write-record .ensures .0) in
     omega (arith, room turn, small)
 
 loop-again : tie.Need-loop-again Inv-loop μ-loop
 loop-again c =
-    let made = c .before .before .before .before in
+    let counted = c .before .before .before .before .before .before in
+    let made = counted .before in
     let tested = made .before .before .before in
     let aged = tested .before .before .before .before .before in
     let turn = aged .before .before in
@@ -61,7 +76,9 @@ loop-again c =
     let due = sym (tested .before .due .ensures) ∙ tested .if3 .taken in
     let same = slot-as-it-was (l .1) noSlot h in
     let lapses = one-lapses (l .1) noSlot h _ age (due-stirs _ _ due) _ (made .before .before .stirred .ensures) in
-    let writes = one-is-written (l .2) noSlot h _ same _ age _ (made .all-bytes .ensures) due _ _ (c .before .before .write-record .ensures) in
+    let writes =
+    one-is-written (l .2) noSlot h _ same _ age _ (made .all-bytes .ensures) _ (counted .payload-length .ensures) due _ _
+    (c .before .before .write-record .ensures) in
     (omega arith, lapses, writes)
 
 loop-again-2 : tie.Need-loop-again-2 Inv-loop μ-loop
@@ -131,9 +148,13 @@ tick-spec =
     (λ c. search needs)
     (λ c. search needs)
     (λ c κs. search needs)
-    (λ c. omega (arith, room (c .before .before .before .before .before .before .before .before .before .before)))
-    (λ c. omega (arith, room (c .before .before .before .before .before .before .before .before .before .before)))
+    (λ c κs. search needs)
+    (λ c. omega (arith, room (c .before .before .before .before .before .before .before .before .before .before .before)))
+    (λ c. omega (arith, room (c .before .before .before .before .before .before .before .before .before .before .before)))
     (λ c. search needs)
+    (λ c. search needs)
+    (λ c. search needs)
+    payload-end
     (λ c κs. search needs)
     add-at
     (λ c. search needs)

@@ -14,10 +14,10 @@ use Rattle.wire.proofs.delivered.put_record.Statement.{statement}
 use Rattle.wire.proofs.delivered.put_record.Tie as tie
 
 abbrev Inv-loop : tie.InvT-loop
-Inv-loop out₀ n bytes s s1 s2 s3 i₀ out i = (i ≤ n) × (length out ≡ length out₀) × (out ≡ paste out₀ 8 bytes i)
+Inv-loop out₀ payload n s s1 s2 s3 i₀ out i = (i ≤ n) × (length out ≡ length out₀) × (out ≡ paste out₀ 8 payload i)
 
 abbrev μ-loop : tie.MeasureT-loop
-μ-loop out₀ n bytes s s1 s2 s3 i₀ out i = n - i
+μ-loop out₀ payload n s s1 s2 s3 i₀ out i = n - i
 
 -- the output where the loop begins
 abbrev with-header : tie.Start Inv-loop μ-loop → List ℕ
@@ -25,9 +25,6 @@ with-header c = sets (now (c .args .out)) 0 (header (c .args .stream) (c .args .
 
 header-keeps-length : (c : tie.Start Inv-loop μ-loop) → length (with-header c) ≡ length (now (c .args .out))
 header-keeps-length c = length-sets (now (c .args .out)) 0 (header (c .args .stream) (c .args .n))
-
-eight-bytes : (c : tie.Start Inv-loop μ-loop) → length (c .args .t3) ≡ 8
-eight-bytes c = search needs
 
 slice-write-out-2 : tie.Need-slice-write-out-2 Inv-loop μ-loop
 slice-write-out-2 c = simp length-set (omega arith)
@@ -51,17 +48,18 @@ slice-write-out-8 : tie.Need-slice-write-out-8 Inv-loop μ-loop
 slice-write-out-8 c = simp length-set (omega arith)
 
 loop-holds : tie.Need-loop-holds Inv-loop μ-loop
-loop-holds c = (search needs, refl, paste-zero (with-header c) 8 (c .args .t3))
+loop-holds c = (search needs, refl, paste-zero (with-header c) 8 (now (c .args .payload)))
 
 loop-again : tie.Need-loop-again Inv-loop μ-loop
 loop-again c =
-    let s = c .before .before in
-    let bytes = s .args .t3 in
-    let i = c .before .loop .i in (
+    let l = c .before .before in
+    let s = l .before in
+    let payload = now (s .args .payload) in
+    let i = l .loop .i in (
       omega arith,
-      length-set (c .before .loop .out) (8 + i) (getD bytes i 0) ∙ c .before .loop .inv .1,
-      rw (c .before .loop .inv .2, add-one)
-          (paste-suc (with-header s) 8 bytes i 0 (omega (arith, header-keeps-length s)) (omega (arith, eight-bytes s))),
+      length-set (l .loop .out) (8 + i) (getD payload i 0) ∙ l .loop .inv .1,
+      rw (l .loop .inv .2, add-one)
+          (paste-suc (with-header s) 8 payload i 0 (omega (arith, header-keeps-length s)) (omega arith)),
     )
 
 same-length : tie.Need-same-length Inv-loop μ-loop
@@ -70,11 +68,11 @@ same-length c = c .before .loop .inv .1 ∙ header-keeps-length (c .before .befo
 returns : tie.Need-returns Inv-loop μ-loop
 returns c =
     let s = c .before .before in
-    let bytes = s .args .t3 in
+    let payload = now (s .args .payload) in
     let all : c .before .loop .i ≡ s .args .n = omega arith in (
       refl,
-      c .before .loop .inv .2 ∙ ap (paste (with-header s) 8 bytes) all
-          ∙ stored-then-pasted (s .args .stream) (now (s .args .out)) bytes (s .args .n) (omega arith) (omega arith) (eight-bytes s),
+      c .before .loop .inv .2 ∙ ap (paste (with-header s) 8 payload) all
+          ∙ stored-then-pasted (s .args .stream) (now (s .args .out)) payload (s .args .n) (omega arith) (omega arith) (omega arith),
     )
 
 pub put-record-spec : {M : Type 1} → statement M
@@ -101,7 +99,7 @@ put-record-spec =
     loop-holds
     (λ c. search needs)
     (λ c. search needs)
-    (λ c. omega (arith, header-keeps-length (c .before .before)))
+    (λ c. omega (arith, header-keeps-length (c .before .before .before)))
     (λ c. search needs)
     (λ c. search needs)
     loop-again

@@ -1,13 +1,15 @@
--- `Message::holding` meets its contract: a payload of at most eight bytes is padded whole.
+-- `Message::holding` meets its contract: the payload is cut, and padded.
 use borrow.Author.Needs.{needs}
-use mathlib.Core.Path.{_∙_}
+use mathlib.Core.Path.{sym, _∙_}
 use denote.Ref.{now}
-use Rattle.node.proofs.slots.Payloads.{padded-whole}
+use Rattle.node.proofs.slots.Payloads.{cut-payload-length}
 use Rattle.node.proofs.slots.Message.holding.Statement.{statement}
 use Rattle.node.proofs.slots.Message.holding.Tie as tie
 
 returns : tie.Need-returns
-returns c = let start = c .before .before in rw (c .pad .ensures ∙ padded-whole (now (start .args .payload)) (start .pre))
+returns c =
+    let cut = c .before in
+    rw (cut .at-most-payload .ensures ∙ sym (cut-payload-length (now (cut .before .before .args .payload))), c .pad .ensures)
 
 pub holding-spec : {M : Type 1} → statement M
-holding-spec = tie.close (tie.spec (λ c. search needs) (λ c κs. search needs) returns)
+holding-spec = tie.close (tie.spec (λ c κs. search needs) (λ c. search needs) (λ c κs. search needs) returns)
