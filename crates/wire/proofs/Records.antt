@@ -1,5 +1,5 @@
 -- The delivered record's length and the worked record; what writing leaves in an output, and how the writer comes to it.
-use mathlib.Core.Path.{_≡_, refl, ap, _∙_}
+use mathlib.Core.Path.{_≡_, refl, ap}
 use mathlib.Core.List.{List, [], _∷_, _++_}
 use Prim.Native.Nat.{ℕ, zero, suc, _+_, _/_, _%_, _≤_, _<_, min}
 use native.Mathlib.Nat.{zero-min, min-zero, suc-min-suc}
@@ -47,8 +47,11 @@ take-at-most (suc n) (b ∷ bytes) = rw suc-min-suc (ap (λ (l : List ℕ). b �
 pub cut-at-eight : (payload : List ℕ) → take (min (length payload) maxPayload) payload ≡ take maxPayload payload
 cut-at-eight payload = take-at-most maxPayload payload
 
+pub cut-payload-length : (payload : List ℕ) → length (take maxPayload payload) ≡ min (length payload) maxPayload
+cut-payload-length payload = omega (arith, length-take maxPayload payload)
+
 pub cut-length : (s : Stream) (payload : List ℕ) → length (recordOf s (take maxPayload payload)) ≡ 8 + min (length payload) maxPayload
-cut-length s payload = record-length s (take maxPayload payload) ∙ omega (arith, length-take maxPayload payload)
+cut-length s payload = rw (record-length s (take maxPayload payload), cut-payload-length payload)
 
 -- the eight bytes before a payload of n bytes
 abbrev pub header : Stream → ℕ → List ℕ

@@ -1,18 +1,18 @@
 -- Payloads: comparing two byte by byte, and padding one with zeros.
 use mathlib.Core.Path.{_≡_, refl, sym, ap, _∙_}
 use mathlib.Core.Bool.{Bool, true, false, _&&_}
-use mathlib.Core.List.{List, [], _∷_, _++_, append-nil}
+use mathlib.Core.List.{List, [], _∷_, _++_}
 use Prim.Native.Nat.{ℕ, suc, _+_, _-_, _≤_, _<_, min}
 use native.Mathlib.Nat.{zero-add}
 use native.Mathlib.Numerals.{add-one}
 use native.Mathlib.Omega.{arith}
-use lib.ListN.{length, getD, take, drop, set, replicate, length-append, length-drop, length-take, take-append-drop, drop-of-length-le}
-use lib.Seq.{drop-cons, paste-suc, take-append-seam, take-length, take-all, take-append-le, getD-take, length-take-le}
-use lib.Dec.{eqb, leb}
-use borrow.Author.Tests.{eq-eqb, ne-eqb, leb-true, leb-false}
+use lib.ListN.{length, getD, take, drop, set, replicate, length-take, take-append-drop, drop-of-length-le}
+use lib.Seq.{drop-cons, paste-suc, take-append-seam, take-all, getD-take, length-take-le}
+use lib.Dec.{eqb}
+use borrow.Author.Tests.{eq-eqb, ne-eqb}
 use Rattle.wire.specs.Frames.{maxPayload}
 use Rattle.wire.specs.Delivered.{over}
-use Rattle.wire.proofs.Records.{cut-at-eight}
+use Rattle.wire.proofs.Records.{cut-at-eight, cut-payload-length}
 use Rattle.node.specs.declared.slots.Message.{Message}
 use Rattle.node.specs.Slots.{padded, payloadOf, sameBytes, same}
 
@@ -74,10 +74,6 @@ copy-next output bytes i here room = rw add-one (simp zero-add at (paste-suc out
 -- the first i bytes of a payload, and zeros up to eight
 abbrev pub filled : List ℕ → ℕ → List ℕ
 filled payload i = copied (replicate maxPayload 0) payload i
-
--- a payload is cut to as many bytes as it may have at most
-pub cut-payload-length : (payload : List ℕ) → length (take maxPayload payload) ≡ min (length payload) maxPayload
-cut-payload-length payload = omega (arith, length-take maxPayload payload)
 
 pub filled-whole : (payload : List ℕ) (n : ℕ) → n ≡ min (length payload) maxPayload → filled payload n ≡ padded (take maxPayload payload)
 filled-whole payload n e = rw (cut-payload-length payload, e, cut-at-eight payload)

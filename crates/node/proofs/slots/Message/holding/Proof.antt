@@ -2,7 +2,7 @@
 use borrow.Author.Needs.{needs}
 use mathlib.Core.Path.{sym, _∙_}
 use denote.Ref.{now}
-use Rattle.node.proofs.slots.Payloads.{cut-payload-length}
+use Rattle.wire.proofs.Records.{cut-payload-length}
 use Rattle.node.proofs.slots.Message.holding.Statement.{statement}
 use Rattle.node.proofs.slots.Message.holding.Tie as tie
 
