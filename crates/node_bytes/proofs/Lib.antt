@@ -7,7 +7,6 @@ pub mod NodeRoundTrip
 pub mod AreBytes
 pub mod Stored
 pub mod Searching
-pub mod Found
 pub mod Fitting
 pub mod Lent
 pub mod Calling

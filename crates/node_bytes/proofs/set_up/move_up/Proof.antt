@@ -46,14 +46,13 @@ loop-again c =
     let bytes : List ℕ = l .loop .bytes in
     let m = decode bytes in
     let i : ℕ = l .loop .i in
-    let slot = read .slot-at .ensures ∙ sym (decoded-slot bytes (i - 1) empty (omega arith)) in
-    (
+    let slot = read .slot-at .ensures ∙ sym (decoded-slot bytes (i - 1) empty (omega arith)) in (
       omega arith,
       omega arith,
       stored-length bytes _ (i - 1 + 1) (read .slot-at .result) (put .put-slot .ensures .0) ∙ whole,
       put .put-slot .ensures .1
-      ∙ ap (λ (x : Slot). withSlots (set (m .slots) (i - 1 + 1) x) m) slot
-      ∙ moved-in n m i empty moved (omega arith) (omega arith) (omega (arith, decoded-length (now (s .args .bytes)))),
+          ∙ ap (λ (x : Slot). withSlots (set (m .slots) (i - 1 + 1) x) m) slot
+          ∙ moved-in n m i empty moved (omega arith) (omega arith) (omega (arith, decoded-length (now (s .args .bytes)))),
     )
 
 returns : tie.Need-returns Inv-loop μ-loop
