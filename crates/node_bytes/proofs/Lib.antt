@@ -6,8 +6,9 @@ pub mod ByIndex
 pub mod NodeRoundTrip
 pub mod AreBytes
 pub mod Stored
-pub mod Found
+pub mod Searching
 pub mod Fitting
 pub mod Lent
+pub mod Calling
 pub mod Unique
 pub mod WorkedNodes

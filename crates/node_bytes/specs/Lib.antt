@@ -3,6 +3,7 @@ pub mod Layout
 pub mod Decoding
 pub mod Encoding
 pub mod Lent
+pub mod LentCalls
 pub mod Widths
 pub mod Laws
 pub mod WorkedNodes
