@@ -14,12 +14,12 @@ use Rattle.node.specs.declared.Node.{Node}
 use Rattle.node.specs.Slots.{empty}
 use Rattle.node.specs.Nodes.{slotCount, done, asAnswered}
 use Rattle.node.specs.Clock.{rolled}
-use Rattle.node.specs.Tick.{tickRoom, due, ageOf, dueSlots, recordsFrom, ticked, tick}
-use Rattle.node.specs.Stirring.{stirs, mayStir, stirred}
+use Rattle.node.specs.Tick.{tickRoom, due, lapsed, ageOf, dueSlots, recordsFrom, ticked, tick}
+use Rattle.node.specs.Stirring.{mayStir}
 use Rattle.node.specs.Calls.{Call}
 use Rattle.node.proofs.Cases.{here}
 use Rattle.node.proofs.tick.Cases.{tick-cases}
-use Rattle.node.proofs.tick.Stirring.{young-is-still, still-is-not-due}
+use Rattle.node.proofs.tick.Stirring.{Still, still-stays, young-is-still}
 use Rattle.node.proofs.tick.OnePass.{Lapsing, lapsing-at-first, all-lapsed, slot-as-it-was, one-stays, one-lapses}
 use Rattle.node.proofs.tick.OnePass.{Writing, writing-at-first, all-written, one-is-not-due}
 use Rattle.node_bytes.specs.Layout.{slotStart, nodeSize}
@@ -63,15 +63,15 @@ module _ {now : ℕ} {bytes₀ out₀ bytes out : List ℕ} {i at : ℕ} (t : Ti
       not-due : due age x ≡ false → Writing rolled now (decode bytes₀ .slots) out₀ out (i + 1) at
       not-due e = one-is-not-due (t .writing) empty h x read-as-it-was age a e
 
-      pub slot-stays : stirs age x ≡ false → Ticking now bytes₀ out₀ bytes out (i + 1) at
+      pub slot-stays : Still age x → Ticking now bytes₀ out₀ bytes out (i + 1) at
       slot-stays still =
           record {
             whole = t .whole;
-            lapsing = one-stays (t .lapsing) empty h age (rw as-decoded at a) (rw as-decoded at still);
-            writing = not-due (still-is-not-due age x still);
+            lapsing = one-stays (t .lapsing) empty h age (rw as-decoded at a) (rw as-decoded at (still-stays age x still));
+            writing = not-due (still .not-due);
           }
 
-      module _ (stirring : stirs age x ≡ true) (y : Slot) (made : y ≡ stirred x) (after : List ℕ)
+      module _ (y : Slot) (made : y ≡ lapsed age x) (after : List ℕ)
           (put : (after ≡ sets bytes (slotStart i) (encodeSlot y)) × (decode after ≡ withSlot i y (decode bytes))) where
         -- and whatever is written for it
         pub slot-lapses : {out₁ : List ℕ} {at₁ : ℕ} → Writing rolled now (decode bytes₀ .slots) out₀ out₁ (i + 1) at₁
@@ -79,8 +79,7 @@ module _ {now : ℕ} {bytes₀ out₀ bytes out : List ℕ} {i at : ℕ} (t : Ti
         slot-lapses writing =
             record {
               whole = ap length (put .0) ∙ length-sets bytes (slotStart i) (encodeSlot y) ∙ t .whole;
-              lapsing =
-                  rw (put .1) (one-lapses (t .lapsing) empty h age (rw as-decoded at a) (rw as-decoded at stirring) y (rw as-decoded at made));
+              lapsing = rw (put .1) (one-lapses (t .lapsing) empty h age (rw as-decoded at a) y (rw as-decoded at made));
               writing = writing;
             }
 

@@ -47,13 +47,15 @@ pub fn tick(bytes: &mut [u8], out: &mut [u8]) -> Written
             let old = slot_at(bytes, i);
             let a = age(now, old.message.stamp);
             if old.due(a) {
-                put_slot(bytes, i, old.stirred());
+                put_slot(bytes, i, old.delivered());
                 let message = old.message;
                 let payload = message.bytes;
                 let n = message.payload_length();
                 at += write_record(&mut out[at..], old.stream, &payload[0..n]);
-            } else if old.stirs(a) {
-                put_slot(bytes, i, old.stirred());
+            } else if old.late(a) {
+                put_slot(bytes, i, old.dropped());
+            } else if old.hold_over(a) {
+                put_slot(bytes, i, old.hold_ended());
             }
         }
     }

@@ -1,5 +1,5 @@
 -- `tick` meets its contract. The loop goes up through the slots, with those passed lapsed and their records written: a slot
--- that is due lapses and has its record written, another that stirs lapses, and the others stay.
+-- that is due lapses and has its record written, one that is late or whose hold is over lapses, and the others stay.
 use borrow.Author.Needs.{needs}
 use native.Mathlib.Omega.{arith}
 use mathlib.Core.Path.{_≡_, sym, ap, _∙_}
@@ -12,7 +12,7 @@ use Rattle.node.specs.Slots.{empty}
 use Rattle.node.specs.Nodes.{slotCount}
 use Rattle.node.specs.Hear.{hearRoom}
 use Rattle.node.specs.Clock.{rolled}
-use Rattle.node.proofs.tick.Stirring.{due-stirs}
+use Rattle.node.proofs.tick.Stirring.{due-is-delivered, late-is-dropped, over-is-ended}
 use Rattle.node.proofs.tick.OnePass.{writing-keeps-length, has-room, lent-within, written-is-small, one-is-written}
 use Rattle.node_bytes.specs.Layout.{counterAt, nodeSize}
 use Rattle.node_bytes.proofs.ByIndex.{decoded-counter}
@@ -94,31 +94,57 @@ loop-again c =
     let writes =
     one-is-written (t .writing) empty h _ (read-as-it-was t h _ there) _ age _ (eight-bytes t h _ there) _ (counted .payload-length .ensures) due _ _
     (c .before .before .write-record .ensures) in
-    (omega arith, slot-lapses t h _ there _ age (due-stirs _ _ due) _ (put .before .stirred .ensures) _ (put .put-slot .ensures) writes)
+    (omega arith, slot-lapses t h _ there _ age _ (put .before .delivered .ensures ∙ due-is-delivered _ _ due) _ (put .put-slot .ensures) writes)
 
 loop-again-2 : tie.Need-loop-again-2 Inv-loop μ-loop
 loop-again-2 c =
     let put = c .before .before in
-    let stirring = put .before .before .before in
-    let tested = stirring .before .before in
+    let asked = put .before .before .before in
+    let tested = asked .before .before in
     let aged = tested .before .before in
     let turn = aged .before .before .before .before .before .before in
-    let h = turn .loop-test .taken in
-    let t = turn .before .loop .inv .1 in
     let not-due = sym (tested .before .due .ensures) ∙ tested .if4 .left in
-    let stirs = sym (stirring .before .stirs .ensures) ∙ stirring .if5 .taken in
-    (omega arith, slot-lapses-unwritten t h _ (aged .before .slot-at .ensures) _ (aged .age .ensures) stirs _ (put .before .stirred2 .ensures) _
-    (put .put-slot2 .ensures) not-due)
+    let late = sym (asked .before .late .ensures) ∙ asked .if5 .taken in
+    (
+      omega arith,
+      slot-lapses-unwritten (turn .before .loop .inv .1) (turn .loop-test .taken) _ (aged .before .slot-at .ensures) _ (aged .age .ensures)
+      _ (put .before .dropped .ensures ∙ late-is-dropped _ _ late) _ (put .put-slot2 .ensures) not-due,
+    )
 
 loop-again-3 : tie.Need-loop-again-3 Inv-loop μ-loop
 loop-again-3 c =
-    let aged = c .before .before .before .before in
+    let put = c .before .before in
+    let over = put .before .before .before in
+    let asked = over .before .before in
+    let tested = asked .before .before in
+    let aged = tested .before .before in
     let turn = aged .before .before .before .before .before .before in
-    let still = sym (c .before .stirs .ensures) ∙ c .if5 .left in
-    (omega arith, slot-stays (turn .before .loop .inv .1) (turn .loop-test .taken) _ (aged .before .slot-at .ensures) _ (aged .age .ensures) still)
+    let not-due = sym (tested .before .due .ensures) ∙ tested .if4 .left in
+    let not-late = sym (asked .before .late .ensures) ∙ asked .if5 .left in
+    let is-over = sym (over .before .hold-over .ensures) ∙ over .if6 .taken in
+    (
+      omega arith,
+      slot-lapses-unwritten (turn .before .loop .inv .1) (turn .loop-test .taken) _ (aged .before .slot-at .ensures) _ (aged .age .ensures)
+      _ (put .before .hold-ended .ensures ∙ over-is-ended _ _ not-late not-due is-over) _ (put .put-slot3 .ensures) not-due,
+    )
 
 loop-again-4 : tie.Need-loop-again-4 Inv-loop μ-loop
 loop-again-4 c =
+    let asked = c .before .before in
+    let tested = asked .before .before in
+    let aged = tested .before .before in
+    let turn = aged .before .before .before .before .before .before in
+    let not-due = sym (tested .before .due .ensures) ∙ tested .if4 .left in
+    let not-late = sym (asked .before .late .ensures) ∙ asked .if5 .left in
+    let not-over = sym (c .before .hold-over .ensures) ∙ c .if6 .left in
+    (
+      omega arith,
+      slot-stays (turn .before .loop .inv .1) (turn .loop-test .taken) _ (aged .before .slot-at .ensures) _ (aged .age .ensures)
+      (record { not-late = not-late; not-due = not-due; not-over = not-over }),
+    )
+
+loop-again-5 : tie.Need-loop-again-5 Inv-loop μ-loop
+loop-again-5 c =
     let turn = c .before .before .before in
     let young = sym (c .before .may-stir-at .ensures) ∙ c .if3 .left in
     (omega arith, slot-is-young (turn .before .loop .inv .1) (turn .loop-test .taken) young)
@@ -177,10 +203,15 @@ tick-spec =
     (λ c κs. inside (c .before .before .before .before .before .before .before .before .before .before .before .before))
     (λ c. omega (arith, inside (c .before .before .before .before .before .before .before .before .before .before .before .before .before .before .before)))
     loop-again-2
-    (λ c. omega (arith, inside (c .before .before .before .before .before .before .before .before .before .before)))
+    (λ c κs. search needs)
+    (λ c κs. search needs)
+    (λ c κs. inside (c .before .before .before .before .before .before .before .before .before .before .before .before .before .before))
+    (λ c. omega (arith, inside (c .before .before .before .before .before .before .before .before .before .before .before .before .before .before .before .before .before)))
     loop-again-3
-    (λ c. search needs)
+    (λ c. omega (arith, inside (c .before .before .before .before .before .before .before .before .before .before .before .before)))
     loop-again-4
+    (λ c. search needs)
+    loop-again-5
     same-length
     same-length-2
     returns-3)
