@@ -1,14 +1,18 @@
 -- The slot of a stream, found in the bytes: what stands there, and what storing a slot made of it does to the node.
-use mathlib.Core.Path.{_≡_, sym, ap, _∙_}
+use mathlib.Core.Path.{_≡_, refl, sym, ap, _∙_}
+use mathlib.Core.Bool.{Bool, true, false, false≢true}
 use mathlib.Core.List.{List}
 use Prim.Native.Nat.{ℕ, _≤_, _<_}
 use native.Mathlib.Omega.{arith}
-use lib.ListN.{getD, set}
+use borrow.Author.Tests.{ltb-true, ltb-false}
+use lib.ListN.{length, getD, set}
+use lib.Dec.{ltb}
 use Rattle.wire.specs.declared.ids.Stream.{Stream}
 use Rattle.node.specs.declared.slots.Slot.{Slot}
-use Rattle.node.specs.Slots.{empty, isOf}
+use Rattle.node.specs.Slots.{empty, isFree, isOf}
 use Rattle.node.specs.Nodes.{slotCount, slotOf, withSlots, onSlot}
-use Rattle.node.proofs.slots.Finding.{indexOf, slot-found, slot-stored, slot-missed}
+use Rattle.node.proofs.slots.Finding.{indexOf, found, before-first, slot-found, slot-stored, slot-missed}
+use Rattle.node.proofs.set_up.Placing.{isAfter}
 use Rattle.node_bytes.specs.Decoding.{slotAt, decode}
 use Rattle.node_bytes.specs.Lent.{withSlot}
 use Rattle.node_bytes.proofs.ByIndex.{decoded-slot, decoded-length}
@@ -31,3 +35,15 @@ module _ (bytes : List ℕ) (s : Stream) (i : ℕ) (at-index : i ≡ indexOf (is
 
   pub missed-slot : slotCount ≤ i → slotOf s (decode bytes) ≡ empty
   missed-slot h = slot-missed (decode bytes) s i at-index (omega (arith, decoded-length bytes))
+
+-- ── the place of a new slot ──
+-- it is not behind the first free one
+pub place-before-free : (s : Stream) (l : List Slot) → indexOf isFree l < length l → indexOf (isAfter s) l ≤ indexOf isFree l
+place-before-free s l room = by-test (ltb (indexOf isFree l) (indexOf (isAfter s) l)) refl
+  where
+    free : isFree (getD l (indexOf isFree l) empty) ≡ true
+    free = found isFree l room .holds empty
+
+    by-test : (t : Bool) → ltb (indexOf isFree l) (indexOf (isAfter s) l) ≡ t → indexOf (isAfter s) l ≤ indexOf isFree l
+    by-test true e = absurd (false≢true (sym (before-first (isAfter s) l (indexOf isFree l) empty (ltb-true _ _ e)) ∙ rw free))
+    by-test false e = ltb-false _ _ e

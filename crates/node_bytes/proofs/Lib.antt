@@ -6,6 +6,7 @@ pub mod ByIndex
 pub mod NodeRoundTrip
 pub mod AreBytes
 pub mod Stored
+pub mod Searching
 pub mod Found
 pub mod Fitting
 pub mod Lent

@@ -30,9 +30,12 @@ use wire::reply::Reply;
 pub mod counter;
 mod finding;
 pub mod fresh;
+pub mod hear;
 pub mod layout;
 pub mod next_frame;
 mod numbers;
+pub mod request;
+pub mod set_up;
 pub mod slots;
 pub mod tick;
 
