@@ -10,5 +10,7 @@ pub mod Searching
 pub mod Fitting
 pub mod Lent
 pub mod Calling
+pub mod CallingNext
+pub mod CallingTick
 pub mod Unique
 pub mod WorkedNodes

@@ -11,6 +11,7 @@ use Rattle.node.specs.Nodes.{Outcome, refused}
 use Rattle.node.specs.Clock.{rolled}
 use Rattle.node.specs.Calls.{Call, outcome}
 use Rattle.node_bytes.specs.declared.Written.{Written}
+use Rattle.node_bytes.specs.declared.next_frame.GivenOut.{GivenOut}
 use Rattle.node_bytes.specs.Decoding.{decode}
 use Rattle.node_bytes.specs.Lent.{isNode}
 
@@ -21,6 +22,10 @@ lentOutcome c bytes = cond (isNode bytes) (outcome rolled c (decode bytes)) (ref
 -- as a call answers it that writes to a lent output
 abbrev pub asWritten : Outcome → Written
 asWritten o = record { reply = o .reply; written = length (o .bytes) }
+
+-- as the next frame answers it
+abbrev pub asGivenOut : Outcome → GivenOut
+asGivenOut o = record { reply = o .reply; id = o .id; len = length (o .bytes) }
 
 -- the bytes after it: the node's, in as many bytes; and after a refusal every byte is as it was
 pub record Leaves (c : Call) (before after : List ℕ) : Type 0 where

@@ -1,5 +1,6 @@
 // Finding a slot of a node in its bytes.
 use crate::slots::after_at;
+use crate::slots::frame_at;
 use crate::slots::free_at;
 use crate::slots::of_at;
 use node::Node;
@@ -7,6 +8,7 @@ use wire::ids::Stream;
 ghost use mathlib.Core.Path.{_≡_};
 ghost use lib.ListN.{length};
 ghost use Rattle.node.specs.Slots.{isFree, isOf};
+ghost use Rattle.node.specs.NextFrame.{hasFrame};
 ghost use Rattle.node.proofs.slots.Finding.{indexOf};
 ghost use Rattle.node.proofs.set_up.Placing.{isAfter};
 ghost use Rattle.node_bytes.specs.Layout.{nodeSize};
@@ -50,6 +52,21 @@ pub(crate) fn find_place(bytes: &[u8], stream: Stream) -> usize
     let mut i: usize = 0;
     while i < Node::SLOTS {
         if after_at(bytes, i, stream) {
+            return i;
+        }
+        i += 1;
+    }
+    i
+}
+
+// The same of the first slot with a frame pending.
+pub(crate) fn find_frame(bytes: &[u8]) -> usize
+    requires { ⌜ length (now bytes) ≡ nodeSize ⌝ }
+    ensures { λ r. ⌜ r ≡ indexOf hasFrame (decode (now (bytes .entry)) .slots) ⌝ }
+{
+    let mut i: usize = 0;
+    while i < Node::SLOTS {
+        if frame_at(bytes, i) {
             return i;
         }
         i += 1;

@@ -35,10 +35,12 @@ mod finding;
 pub mod fresh;
 pub mod hear;
 pub mod layout;
+pub mod next_frame;
 mod numbers;
 pub mod request;
 pub mod set_up;
 pub mod slots;
+pub mod tick;
 
 // What hear and tick answer: how many bytes of the output were written.
 pub struct Written {
