@@ -22,7 +22,7 @@
 #define KOSMYDORE_VERSION "4.3.1"
 #define KOSMYDORE_VERSION_MAJOR 4
 #define KOSMYDORE_VERSION_MINOR 3
-#define KOSMYDORE_VERSION_PATCH 0
+#define KOSMYDORE_VERSION_PATCH 1
 
 #include <stdbool.h>
 #include <stddef.h>
