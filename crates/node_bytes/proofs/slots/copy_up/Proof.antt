@@ -40,8 +40,7 @@ returns c =
       read-2 .eight-at2 .ensures,
       read-1 .eight-at .ensures,
     )
-    (rows-copied bytes bytes (slotSize + slotStart i) (slotStart i) ∙ ap (λ (at : ℕ). sets bytes at row) next) in
-    (
+    (rows-copied bytes bytes (slotSize + slotStart i) (slotStart i) ∙ ap (λ (at : ℕ). sets bytes at row) next) in (
       ap (λ (l : List ℕ). length l) written ∙ length-sets bytes (slotStart (i + 1)) row ∙ start .pre .0,
       ap decode written ∙ decode-copied bytes (i + 1) i (start .pre .0) (start .pre .1),
     )
