@@ -14,11 +14,11 @@ use Rattle.node.specs.declared.slots.Slot.{Slot}
 use Rattle.node.specs.Slots.{empty}
 use Rattle.node.specs.Nodes.{slotCount}
 use Rattle.node_bytes.specs.Layout.{slotSize, slotStart, counterAt, nodeSize}
-use Rattle.node_bytes.specs.Decoding.{byteAt, slotFrom, slotAt, decode}
+use Rattle.node_bytes.specs.Decoding.{byteAt, bytesAt, slotFrom, slotAt, decode}
 use Rattle.node_bytes.specs.Encoding.{encodeSlot}
 use Rattle.node_bytes.specs.Lent.{withSlot, withCounter}
 use Rattle.node_bytes.specs.Widths.{Fits16, SlotFits}
-use Rattle.node_bytes.proofs.Elsewhere.{Outside, byte-elsewhere, counter-same, slot-same}
+use Rattle.node_bytes.proofs.Elsewhere.{Outside, byte-elsewhere, counter-same, slot-moved, slot-same, byte-copied}
 use Rattle.node_bytes.proofs.SlotRoundTrip.{slot-back}
 use Rattle.node_bytes.proofs.NodeRoundTrip.{length-encoded-slot, counter-there}
 use Rattle.node_bytes.proofs.ByIndex.{decoded-slot, decoded-length, decoded-counter, same-node}
@@ -35,47 +35,61 @@ pub stored-length : (before after : List ℕ) (i : ℕ) (x : Slot) → after ≡
 stored-length before after i x e = ap (λ (l : List ℕ). length l) e ∙ length-sets before (slotStart i) (encodeSlot x)
 
 -- ── a slot ──
-module _ (bytes : List ℕ) (i : ℕ) (x : Slot) (whole : length bytes ≡ nodeSize) (inside : i < slotCount) (fits : SlotFits x) where
+-- the bytes of a slot are stored, whatever slot they are
+module _ (bytes row : List ℕ) (i : ℕ) (whole : length bytes ≡ nodeSize) (inside : i < slotCount) (long : length row ≡ slotSize) where
   abbrev after : List ℕ
-  after = sets bytes (slotStart i) (encodeSlot x)
-
-  pub stored-here : slotAt after i ≡ x
-  stored-here =
-      let at : ℕ = slotStart i in
-      let own : List ℕ = encodeSlot x in
-      let long = length-encoded-slot x in
-      let front : at ≡ length (take at bytes) = sym (length-take-le at bytes (omega arith)) in
-      rw (sets-eq own bytes at (omega arith), append-assoc (take at bytes) own (drop (at + length own) bytes))
-      (ap (slotFrom (take at bytes ++ (own ++ drop (at + length own) bytes))) front ∙ slot-back (take at bytes) _ x fits)
+  after = sets bytes (slotStart i) row
 
   -- a byte of no slot but i
   stored-outside : (j : ℕ) → Outside (slotStart i) slotSize j → byteAt after j ≡ byteAt bytes j
-  stored-outside j o = byte-elsewhere bytes (encodeSlot x) (slotStart i) j (rw (length-encoded-slot x) o)
+  stored-outside j o = byte-elsewhere bytes row (slotStart i) j (rw long o)
 
-  pub stored-elsewhere : (j : ℕ) → (j < i) ⊎ (i < j) → slotAt after j ≡ slotAt bytes j
+  stored-elsewhere : (j : ℕ) → (j < i) ⊎ (i < j) → slotAt after j ≡ slotAt bytes j
   stored-elsewhere j (inl h) = slot-same after bytes (slotStart j) (λ k p q. stored-outside k (inl (omega arith)))
   stored-elsewhere j (inr h) = slot-same after bytes (slotStart j) (λ k p q. stored-outside k (inr (omega arith)))
 
-  each-slot : (j : ℕ) (same : Bool) → eqb j i ≡ same → j < slotCount → slotAt after j ≡ getD (set (decode bytes .slots) i x) j empty
-  each-slot j true e h =
-      let same = eqb-true j i e in
-      rw same (stored-here ∙ sym (getD-set-same (decode bytes .slots) i x empty (omega (arith, decoded-length bytes))))
-  each-slot j false e h =
-      let other = eqb-false j i e in
-      stored-elsewhere j (either j i other)
-      ∙ sym (getD-set-other (decode bytes .slots) i j x empty other ∙ decoded-slot bytes j empty h)
+  module _ (x : Slot) (here : slotAt after i ≡ x) where
+    each-slot : (j : ℕ) (same : Bool) → eqb j i ≡ same → j < slotCount → slotAt after j ≡ getD (set (decode bytes .slots) i x) j empty
+    each-slot j true e h =
+        let same = eqb-true j i e in
+        rw same (here ∙ sym (getD-set-same (decode bytes .slots) i x empty (omega (arith, decoded-length bytes))))
+    each-slot j false e h =
+        let other = eqb-false j i e in
+        stored-elsewhere j (either j i other)
+        ∙ sym (getD-set-other (decode bytes .slots) i j x empty other ∙ decoded-slot bytes j empty h)
 
-  pub decode-stored : decode after ≡ withSlot i x (decode bytes)
-  decode-stored =
-      same-node
-      (ext-getD empty (decode after .slots) (set (decode bytes .slots) i x)
-      (decoded-length after ∙ sym (length-set (decode bytes .slots) i x ∙ decoded-length bytes))
-      (λ j h.
-      let less : j < slotCount = omega (arith, decoded-length after) in
-      decoded-slot after j empty less ∙ each-slot j (eqb j i) refl less))
-      (decoded-counter after
-      ∙ counter-same after bytes counterAt (λ k p q. stored-outside k (inr (omega arith)))
-      ∙ sym (decoded-counter bytes))
+    decode-row : decode after ≡ withSlot i x (decode bytes)
+    decode-row =
+        same-node
+        (ext-getD empty (decode after .slots) (set (decode bytes .slots) i x)
+        (decoded-length after ∙ sym (length-set (decode bytes .slots) i x ∙ decoded-length bytes))
+        (λ j h.
+        let less : j < slotCount = omega (arith, decoded-length after) in
+        decoded-slot after j empty less ∙ each-slot j (eqb j i) refl less))
+        (decoded-counter after
+        ∙ counter-same after bytes counterAt (λ k p q. stored-outside k (inr (omega arith)))
+        ∙ sym (decoded-counter bytes))
+
+-- those of a slot with numbers that fit
+pub decode-stored : (bytes : List ℕ) (i : ℕ) (x : Slot) → length bytes ≡ nodeSize → i < slotCount → SlotFits x
+    → decode (sets bytes (slotStart i) (encodeSlot x)) ≡ withSlot i x (decode bytes)
+decode-stored bytes i x whole inside fits = decode-row bytes (encodeSlot x) i whole inside (length-encoded-slot x) x stored-here
+  where
+    stored-here : slotAt (sets bytes (slotStart i) (encodeSlot x)) i ≡ x
+    stored-here =
+        let at : ℕ = slotStart i in
+        let own : List ℕ = encodeSlot x in
+        let long = length-encoded-slot x in
+        let front : at ≡ length (take at bytes) = sym (length-take-le at bytes (omega arith)) in
+        rw (sets-eq own bytes at (omega arith), append-assoc (take at bytes) own (drop (at + length own) bytes))
+        (ap (slotFrom (take at bytes ++ (own ++ drop (at + length own) bytes))) front ∙ slot-back (take at bytes) _ x fits)
+
+-- those of another slot
+pub decode-copied : (bytes : List ℕ) (i j : ℕ) → length bytes ≡ nodeSize → i < slotCount
+    → decode (sets bytes (slotStart i) (bytesAt slotSize bytes (slotStart j))) ≡ withSlot i (slotAt bytes j) (decode bytes)
+decode-copied bytes i j whole inside =
+    decode-row bytes (bytesAt slotSize bytes (slotStart j)) i whole inside refl (slotAt bytes j)
+    (slot-moved _ bytes (slotStart i) (slotStart j) (byte-copied slotSize bytes bytes (slotStart i) (slotStart j) (omega arith)))
 
 -- ── the counter ──
 module _ (bytes : List ℕ) (c : ℕ) (whole : length bytes ≡ nodeSize) (fits : Fits16 c) where
