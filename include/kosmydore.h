@@ -4,8 +4,9 @@
  *
  * The functions on plain 32-bit numbers are defined for every value of each of them, keep nothing
  * between calls, and touch no memory of the caller. A value is given in two calls: one answers the
- * reply, the other the value, which is 0 unless the reply is KOSMYDORE_DONE. Nothing is cut to a
- * smaller width first: a role of 256 is refused, and not taken for 0.
+ * reply, the other the value, which is 0 unless the reply is KOSMYDORE_DONE. No number that is handed
+ * over, to these functions or to the node's calls, is cut to a smaller width first: a role of 256 is
+ * refused, and not taken for 0.
  *
  * The node's calls take the whole node and give it back in their answer.
  *
@@ -21,7 +22,7 @@
 #define KOSMYDORE_VERSION "4.3.1"
 #define KOSMYDORE_VERSION_MAJOR 4
 #define KOSMYDORE_VERSION_MINOR 3
-#define KOSMYDORE_VERSION_PATCH 0
+#define KOSMYDORE_VERSION_PATCH 1
 
 #include <stdbool.h>
 #include <stddef.h>
@@ -144,7 +145,7 @@ uint32_t kosmydore_record_length(uint32_t payload_length);
  * there is padding, whose bytes no call promises anything of: do not compare nodes, or take a sum
  * over them, byte by byte.
  */
-struct kosmydore_settings {
+struct kosmydore_slot_settings {
     uint8_t role;
     uint8_t class_;
     uint16_t data_reach;
@@ -169,7 +170,7 @@ struct kosmydore_pending {
 
 struct kosmydore_slot {
     uint32_t stream;
-    struct kosmydore_settings settings;
+    struct kosmydore_slot_settings settings;
     struct kosmydore_message message;
     struct kosmydore_pending pending;
     bool used;
@@ -178,6 +179,16 @@ struct kosmydore_slot {
 struct kosmydore_node {
     struct kosmydore_slot slots[KOSMYDORE_SLOTS];
     uint16_t counter;
+};
+
+/* The settings of a stream, as set up takes them; kosmydore_settings_reply says which are legal. */
+struct kosmydore_settings {
+    uint32_t role;
+    uint32_t class_;
+    uint32_t data_reach;
+    uint32_t confirm_delay;
+    uint32_t abort_reach;
+    uint32_t deliver_delay;
 };
 
 /* What set up and request answer. */
@@ -204,7 +215,7 @@ struct kosmydore_given {
 /* Before any call. */
 struct kosmydore_node kosmydore_fresh(void);
 
-/* Gives a stream a slot, with its settings. */
+/* Gives a stream a slot, with its settings; any that are not legal are answered by KOSMYDORE_BAD_SETTINGS. */
 struct kosmydore_answered kosmydore_set_up(struct kosmydore_node node, uint32_t stream,
                                            struct kosmydore_settings settings);
 
@@ -217,7 +228,7 @@ struct kosmydore_answered kosmydore_set_up(struct kosmydore_node node, uint32_t 
  * means: as many as it says up to 8, and 8 from 9 to 15. Anything else is answered by
  * KOSMYDORE_BAD_FRAME, and so is a confirmation or an abort whose DLC is not 0.
  */
-struct kosmydore_delivered kosmydore_hear(struct kosmydore_node node, uint32_t id, uint8_t dlc,
+struct kosmydore_delivered kosmydore_hear(struct kosmydore_node node, uint32_t id, uint32_t dlc,
                                           const uint8_t *payload, size_t payload_length,
                                           uint8_t *output, size_t output_length);
 

@@ -202,8 +202,36 @@ static void node(void)
     SAME(kosmydore_set_up(set.node, stream, settings).reply, KOSMYDORE_TABLE_FULL);
 }
 
+/* Set up takes what kosmydore_settings_reply says is legal, and nothing else: no number is cut. */
+static void set_up_numbers(void)
+{
+    const uint32_t above[] = {UINT32_C(1) << 8, UINT32_C(1) << 16, UINT32_C(1) << 24};
+    uint32_t legal[6] = {KOSMYDORE_RECEIVE, KOSMYDORE_TWO_MESSAGE, 2, 3, 2, 6};
+    size_t field, i;
+
+    for (field = 0; field < 6; field++)
+        for (i = 0; i < sizeof above / sizeof above[0]; i++) {
+            const uint32_t number = legal[field];
+            struct kosmydore_settings settings;
+            struct kosmydore_answered set;
+
+            legal[field] = number + above[i];
+            settings.role = legal[0];
+            settings.class_ = legal[1];
+            settings.data_reach = legal[2];
+            settings.confirm_delay = legal[3];
+            settings.abort_reach = legal[4];
+            settings.deliver_delay = legal[5];
+            set = kosmydore_set_up(kosmydore_fresh(), 5, settings);
+            SAME(set.reply, kosmydore_settings_reply(5, legal[0], legal[1], legal[2], legal[3], legal[4], legal[5]));
+            SAME(set.node.slots[0].used, set.reply == KOSMYDORE_DONE);
+            SAME(set.reply == KOSMYDORE_DONE, field == 5 && above[i] == 256);
+            legal[field] = number;
+        }
+}
+
 /* A frame with this DLC and so many bytes, as a node answers it that receives stream 5 as two-message. */
-static uint32_t heard(struct kosmydore_node receiver, uint32_t id, uint8_t dlc, size_t bytes)
+static uint32_t heard(struct kosmydore_node receiver, uint32_t id, uint32_t dlc, size_t bytes)
 {
     const uint8_t payload[16] = {1, 2, 3, 4, 5, 6, 7, 8, 9};
     uint8_t output[KOSMYDORE_HEAR_OUTPUT];
@@ -219,7 +247,7 @@ static void dlcs(void)
     struct kosmydore_settings settings;
     struct kosmydore_node receiver;
     struct kosmydore_delivered first;
-    uint8_t dlc, other;
+    uint32_t dlc, other;
 
     settings.role = KOSMYDORE_RECEIVE;
     settings.class_ = KOSMYDORE_TWO_MESSAGE;
@@ -244,6 +272,12 @@ static void dlcs(void)
     SAME(heard(receiver, 20, KOSMYDORE_MAX_DLC + 1, KOSMYDORE_MAX_PAYLOAD), KOSMYDORE_BAD_FRAME);
     SAME(heard(receiver, 20, KOSMYDORE_MAX_DLC + 1, KOSMYDORE_MAX_DLC + 1), KOSMYDORE_BAD_FRAME);
     SAME(heard(receiver, 20, 255, KOSMYDORE_MAX_PAYLOAD), KOSMYDORE_BAD_FRAME);
+    SAME(heard(receiver, 20, 256, 0), KOSMYDORE_BAD_FRAME);
+    SAME(heard(receiver, 20, 264, KOSMYDORE_MAX_PAYLOAD), KOSMYDORE_BAD_FRAME);
+    SAME(heard(receiver, 20, 271, KOSMYDORE_MAX_PAYLOAD), KOSMYDORE_BAD_FRAME);
+    SAME(heard(receiver, 20, 65544, KOSMYDORE_MAX_PAYLOAD), KOSMYDORE_BAD_FRAME);
+    SAME(heard(receiver, 21, 256, 0), KOSMYDORE_BAD_FRAME);
+    SAME(heard(receiver, 20, TOP, KOSMYDORE_MAX_PAYLOAD), KOSMYDORE_BAD_FRAME);
     SAME(heard(receiver, 20, 7, KOSMYDORE_MAX_PAYLOAD), KOSMYDORE_BAD_FRAME);
     SAME(heard(receiver, 20, 7, 7), KOSMYDORE_DONE);
 }
@@ -257,6 +291,7 @@ int main(void)
     two_message();
     record_length();
     node();
+    set_up_numbers();
     dlcs();
     printf("%d passed, %d failed\n", passed, failed);
     return failed == 0 ? 0 : 1;

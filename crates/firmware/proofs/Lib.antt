@@ -1,5 +1,6 @@
 -- What is shown of the promises of firmware.
 pub mod Answering
+pub mod Judging
 pub mod Refusals
 pub mod Unique
 pub mod Histories
