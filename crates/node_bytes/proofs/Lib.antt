@@ -9,5 +9,7 @@ pub mod Stored
 pub mod Found
 pub mod Fitting
 pub mod Lent
+pub mod Calling
+pub mod CallingNext
 pub mod Unique
 pub mod WorkedNodes

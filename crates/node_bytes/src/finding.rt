@@ -1,10 +1,12 @@
 // Finding a slot of a node in its bytes.
+use crate::slots::frame_at;
 use crate::slots::of_at;
 use node::Node;
 use wire::ids::Stream;
 ghost use mathlib.Core.Path.{_≡_};
 ghost use lib.ListN.{length};
 ghost use Rattle.node.specs.Slots.{isOf};
+ghost use Rattle.node.specs.NextFrame.{hasFrame};
 ghost use Rattle.node.proofs.slots.Finding.{indexOf};
 ghost use Rattle.node_bytes.specs.Layout.{nodeSize};
 ghost use Rattle.node_bytes.specs.Decoding.{decode};
@@ -17,6 +19,21 @@ pub(crate) fn find(bytes: &[u8], stream: Stream) -> usize
     let mut i: usize = 0;
     while i < Node::SLOTS {
         if of_at(bytes, i, stream) {
+            return i;
+        }
+        i += 1;
+    }
+    i
+}
+
+// The index of the first slot with a frame pending; where there is none, the number of slots.
+pub(crate) fn find_frame(bytes: &[u8]) -> usize
+    requires { ⌜ length (now bytes) ≡ nodeSize ⌝ }
+    ensures { λ r. ⌜ r ≡ indexOf hasFrame (decode (now (bytes .entry)) .slots) ⌝ }
+{
+    let mut i: usize = 0;
+    while i < Node::SLOTS {
+        if frame_at(bytes, i) {
             return i;
         }
         i += 1;

@@ -29,5 +29,6 @@ pub mod counter;
 mod finding;
 pub mod fresh;
 pub mod layout;
+pub mod next_frame;
 mod numbers;
 pub mod slots;

@@ -20,6 +20,7 @@ ghost use mathlib.Core.Bool.{true};
 ghost use Rattle.node.specs.Slots.{isFree, isOf};
 ghost use Rattle.node.specs.Nodes.{slotCount};
 ghost use Rattle.node.specs.Request.{hasPending};
+ghost use Rattle.node.specs.NextFrame.{hasFrame};
 ghost use Rattle.node_bytes.specs.Layout.{slotStart, slotSize, nodeSize};
 ghost use Rattle.node_bytes.specs.Decoding.{settingsFrom, messageFrom, pendingFrom, slotAt, decode};
 ghost use Rattle.node_bytes.specs.Lent.{isNode, readSlot, storeSlot, withSlot};
@@ -134,6 +135,18 @@ pub(crate) fn pending_at(bytes: &[u8], i: usize) -> bool
 {
     let p = pending_from(bytes, layout::SLOT_SIZE * i);
     p.any()
+}
+
+// Whether a frame of slot i is pending: most slots have none, and of these the flags alone are read.
+pub(crate) fn frame_at(bytes: &[u8], i: usize) -> bool
+    requires { ⌜ (length (now bytes) ≡ nodeSize) × (i < slotCount) ⌝ }
+    ensures { λ r. ⌜ r ≡ hasFrame (slotAt (now (bytes .entry)) i) ⌝ }
+{
+    if !pending_at(bytes, i) {
+        return false;
+    }
+    let s = slot_at(bytes, i);
+    s.has_frame()
 }
 
 pub(crate) fn held_at(bytes: &[u8], i: usize) -> bool
