@@ -1,6 +1,7 @@
 -- What is shown of the promises of firmware.
 pub mod Answering
 pub mod Judging
+pub mod LentAnswering
 pub mod Refusals
 pub mod Unique
 pub mod Histories

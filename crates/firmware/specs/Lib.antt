@@ -2,4 +2,5 @@
 pub mod Boundary
 pub mod Answers
 pub mod Judged
+pub mod Lent
 pub mod Histories

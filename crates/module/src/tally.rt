@@ -90,9 +90,9 @@ pub fn count_in(counts: &mut [u32], number: u32) -> bool
     if i >= Tally::SIZE {
         return false;
     }
-    let n = counts[i];
-    if n < Tally::MOST {
-        counts[i] = n + 1;
+    let was = counts[i];
+    if was < Tally::MOST {
+        counts[i] = was + 1;
         return true;
     }
     true

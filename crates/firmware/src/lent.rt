@@ -1,0 +1,60 @@
+// The calls for the modules' firmware: the node stands in bytes that the firmware owns and lends, and the
+// reply of each call is counted in a lent tally. The node is not copied, and an answer is small.
+use module::tally::count_in;
+use node_bytes::fresh::fresh;
+use node_bytes::next_frame::next_frame;
+ghost use mathlib.Core.Path.{_≡_};
+ghost use Rattle.wire.specs.Replies.{numberOf};
+ghost use Rattle.wire.specs.Delivered.{over};
+ghost use Rattle.node.specs.Calls.{Call};
+ghost use Rattle.node_bytes.specs.Lent.{freshReply, freshIn};
+ghost use Rattle.node_bytes.specs.LentCalls.{lentOutcome, Leaves};
+ghost use Rattle.module.specs.Tallies.{hasCount, countedIn};
+ghost use Rattle.firmware.specs.Lent.{givenOutC, Counts};
+
+// What next frame answers.
+#[repr(C)]
+pub struct GivenOutC {
+    pub reply: u32,
+    pub id: u32,
+    pub len: usize,
+}
+
+// Counts a reply of another call, by its number; whether it has a count in the tally.
+#[no_mangle]
+pub extern "C" fn kosmydore_count(tally: &mut [u32], reply: u32) -> bool
+    ensures answer { λ r. ⌜ r ≡ hasCount reply (now (tally .entry)) ⌝ }
+    ensures tally { λ _. ⌜ now (tally .exit) ≡ countedIn reply (now (tally .entry)) ⌝ }
+{
+    count_in(tally, reply)
+}
+
+// Writes the node before any call.
+#[no_mangle]
+pub extern "C" fn kosmydore_module_fresh(bytes: &mut [u8]) -> u32
+    ensures answer { λ r. ⌜ r ≡ numberOf (freshReply (now (bytes .entry))) ⌝ }
+    ensures bytes { λ _. ⌜ now (bytes .exit) ≡ freshIn (now (bytes .entry)) ⌝ }
+{
+    let reply = fresh(bytes);
+    reply.number()
+}
+
+#[no_mangle]
+pub extern "C" fn kosmydore_module_next_frame(bytes: &mut [u8], out: &mut [u8], tally: &mut [u32]) -> GivenOutC
+    ensures answer { λ r. ⌜ r ≡ givenOutC (lentOutcome (Call.nextFrame (now (out .entry))) (now (bytes .entry))) ⌝ }
+    ensures output { λ _. ⌜ now (out .exit)
+        ≡ over (lentOutcome (Call.nextFrame (now (out .entry))) (now (bytes .entry)) .bytes) (now (out .entry)) ⌝ }
+    ensures bytes { λ _. ⌜ Leaves (Call.nextFrame (now (out .entry))) (now (bytes .entry)) (now (bytes .exit)) ⌝ }
+    ensures tally { λ _. ⌜ Counts (Call.nextFrame (now (out .entry))) (now (bytes .entry)) (now (tally .entry)) (now (tally .exit)) ⌝ }
+{
+    let answer = next_frame(bytes, out);
+    let reply = answer.reply;
+    let number = reply.number();
+    count_in(tally, number);
+    let id = answer.id;
+    GivenOutC {
+        reply: number,
+        id: id.0,
+        len: answer.len,
+    }
+}
