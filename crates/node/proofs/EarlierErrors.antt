@@ -1,8 +1,7 @@
 -- The errors seen in earlier versions, each ruled out for every slot and every node.
 use Prim.Native.Nat.{ℕ, _+_, _%_, _≤_, _<_}
 use native.Mathlib.Omega.{arith}
-use mathlib.Core.Path.{_≡_, refl, ap, _∙_}
-use mathlib.Core.Logic.{⊎-elim}
+use mathlib.Core.Path.{_≡_, refl, sym, ap, _∙_}
 use mathlib.Core.Bool.{true, false, and-eq-true-iff}
 use mathlib.Core.List.{List}
 use Rattle.wire.specs.declared.ids.Stream.{Stream}
@@ -12,26 +11,25 @@ use Rattle.wire.specs.Settings.{receives, isTwoMessage}
 use Rattle.node.specs.declared.slots.Slot.{Slot}
 use Rattle.node.specs.declared.Node.{Node}
 use Rattle.node.specs.Nodes.{slotOf}
-use Rattle.node.specs.Slots.{noMessage, holding, restamped, abortPending, withParts, withMessage}
+use Rattle.node.specs.Slots.{holding, restamped, withMessage}
 use Rattle.node.specs.Clock.{Clock, period, rolled}
 use Rattle.node.specs.Hear.{clashes, heardBy, hear}
-use Rattle.node.specs.Tick.{late, due, holdOver, lapsed, ageOf, tickSlot, dueSlots, ticked}
+use Rattle.node.specs.Tick.{late, due, holdOver, dropped, delivered, lapsed, ageOf, tickSlot, dueSlots, ticked}
 use Rattle.node.specs.Calls.{Call, after}
 use Rattle.node.proofs.Choices.{contrary, refuted}
 use Rattle.node.proofs.Cases.{by-case}
 use Rattle.node.proofs.hear.Cases.{hear-cases}
 use Rattle.node.proofs.slots.Streams.{heard-keeps, slot-of-changed, slot-of-ticked}
 use Rattle.node.proofs.tick.Tests.{Late, late-tells, due-tells, hold-over-tells}
+use Rattle.node.proofs.tick.Stirring.{unconfirmed-is-not-due, late-is-dropped, due-is-delivered}
 use Rattle.node.proofs.tick.Ascending.{Ascends, due-ascend}
-use Rattle.node.proofs.kept.EachSlot.{imd-not-two, not-sender}
+use Rattle.node.proofs.kept.EachSlot.{not-sender}
 use Rattle.node.proofs.slot_order.InStreamOrder.{stream-order-unseen}
 
 -- ── delivering on age alone ──
 -- an unconfirmed 2M message is not due at any age
 pub unconfirmed-never-due : (age : ℕ) (x : Slot) → isTwoMessage (x .settings) ≡ true → x .message .confirmed ≡ false → due age x ≡ false
-unconfirmed-never-due age x two unconfirmed =
-    refuted (due age x) (λ d.
-    ⊎-elim (λ imd. contrary two (imd-not-two (x .settings) imd)) (λ c. contrary (c .1) unconfirmed) (due-tells age x .says d .settled))
+unconfirmed-never-due = unconfirmed-is-not-due
 
 -- ── `age >= dc` ──
 -- all three tests are strict
@@ -57,20 +55,14 @@ held-up-to-dc age x r two unconfirmed young =
     rw (not-late, unconfirmed-never-due age x two unconfirmed, not-over)
 
 -- and dropped with an abort pending at the next
-pub dropped-after-dc : (age : ℕ) (x : Slot) → Late age x → lapsed age x ≡ withParts x noMessage (abortPending (x .pending))
-unfolding lapsed
-dropped-after-dc age x l = rw (late-tells age x .back l)
+pub dropped-after-dc : (age : ℕ) (x : Slot) → Late age x → lapsed age x ≡ dropped x
+dropped-after-dc age x l = sym (late-is-dropped age x (late-tells age x .back l))
 
 -- ── a delivered message left in the table ──
-module _ (age : ℕ) (x : Slot) (delivered : due age x ≡ true) where
-  due-not-late : late age x ≡ false
-  due-not-late =
-      refuted (late age x) (λ l. let t = late-tells age x .says l in contrary delivered (unconfirmed-never-due age x (t .two-message) (t .unconfirmed)))
-
+module _ (age : ℕ) (x : Slot) (is-due : due age x ≡ true) where
   -- the slot of a delivered message holds nothing
-  pub delivered-leaves : lapsed age x ≡ withMessage noMessage x
-  unfolding lapsed
-  delivered-leaves = rw (due-not-late, delivered)
+  pub delivered-leaves : lapsed age x ≡ delivered x
+  delivered-leaves = sym (due-is-delivered age x is-due)
 
   -- and data heard then is new, whatever it is: no duplicate, and no Clash
   pub heard-anew : (now : ℕ) (payload : List ℕ)
@@ -81,9 +73,9 @@ module _ (age : ℕ) (x : Slot) (delivered : due age x ≡ true) where
 -- so it is in the node that a tick leaves
 pub delivered-leaves-node : (clock : Clock) (s : Stream) (n : Node)
     → let now = clock .next (n .counter) in due (ageOf clock now (slotOf s n)) (slotOf s n) ≡ true
-    → slotOf s (ticked clock n) ≡ withMessage noMessage (slotOf s n)
-delivered-leaves-node clock s n delivered =
-    slot-of-ticked clock s n ∙ delivered-leaves (ageOf clock (clock .next (n .counter)) (slotOf s n)) (slotOf s n) delivered
+    → slotOf s (ticked clock n) ≡ delivered (slotOf s n)
+delivered-leaves-node clock s n is-due =
+    slot-of-ticked clock s n ∙ delivered-leaves (ageOf clock (clock .next (n .counter)) (slotOf s n)) (slotOf s n) is-due
 
 -- ── unconfirming on a duplicate ──
 -- a duplicate changes the stamp and nothing else

@@ -23,10 +23,13 @@ use Rattle.node.proofs.slots.Slot.request_reply.Reads as request-reply
 use Rattle.node.proofs.slots.Slot.requested.Reads as requested
 use Rattle.node.proofs.tick.next.Reads as next
 use Rattle.node.proofs.tick.age.Reads as age
+use Rattle.node.proofs.slots.Slot.late.Reads as late
 use Rattle.node.proofs.slots.Slot.due.Reads as due
+use Rattle.node.proofs.slots.Slot.hold_over.Reads as hold-over
 use Rattle.node.proofs.slots.Slot.may_stir.Reads as may-stir
-use Rattle.node.proofs.slots.Slot.stirs.Reads as stirs
-use Rattle.node.proofs.slots.Slot.stirred.Reads as stirred
+use Rattle.node.proofs.slots.Slot.dropped.Reads as dropped
+use Rattle.node.proofs.slots.Slot.delivered.Reads as delivered
+use Rattle.node.proofs.slots.Slot.hold_ended.Reads as hold-ended
 use Rattle.node.proofs.slots.Slot.has_frame.Reads as has-frame
 use Rattle.node.proofs.slots.Slot.lowest_code.Reads as lowest-code
 use Rattle.node.proofs.slots.Slot.given_out.Reads as given-out
@@ -91,17 +94,26 @@ next-unique l input a b s t = same
 pub age-unique : OneAnswer age.Post
 age-unique l input a b s t = same
 
+pub late-unique : OneAnswer late.Post
+late-unique l input a b s t = same
+
 pub due-unique : OneAnswer due.Post
 due-unique l input a b s t = same
+
+pub hold-over-unique : OneAnswer hold-over.Post
+hold-over-unique l input a b s t = same
 
 pub may-stir-unique : OneAnswer may-stir.Post
 may-stir-unique l input a b s t = same
 
-pub stirs-unique : OneAnswer stirs.Post
-stirs-unique l input a b s t = same
+pub dropped-unique : OneAnswer dropped.Post
+dropped-unique l input a b s t = same
 
-pub stirred-unique : OneAnswer stirred.Post
-stirred-unique l input a b s t = same
+pub delivered-unique : OneAnswer delivered.Post
+delivered-unique l input a b s t = same
+
+pub hold-ended-unique : OneAnswer hold-ended.Post
+hold-ended-unique l input a b s t = same
 
 -- ── the leaves ──
 pub fresh-unique : OneAnswer fresh.Post

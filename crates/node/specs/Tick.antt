@@ -37,12 +37,20 @@ holdLength s = s .rd + s .dd
 unfoldable pub holdOver : (age : ℕ) → Slot → Bool
 holdOver age x = isSender x && x .message .held && ltb (holdLength (x .settings)) age
 
--- dropped with an abort pending; delivered; the hold ends
+-- the message is gone, and an abort is pending
+abbrev pub dropped : Slot → Slot
+dropped x = withParts x noMessage (abortPending (x .pending))
+
+-- the message is gone
+abbrev pub delivered : Slot → Slot
+delivered x = withMessage noMessage x
+
+-- a sender's message is held no longer
+abbrev pub holdEnded : Slot → Slot
+holdEnded x = withMessage (released (x .message)) x
+
 unfoldable pub lapsed : (age : ℕ) → Slot → Slot
-lapsed age x =
-    cond (late age x) (withParts x noMessage (abortPending (x .pending)))
-    (cond (due age x) (withMessage noMessage x)
-    (cond (holdOver age x) (withMessage (released (x .message)) x) x))
+lapsed age x = cond (late age x) (dropped x) (cond (due age x) (delivered x) (cond (holdOver age x) (holdEnded x) x))
 
 module _ (clock : Clock) (now : ℕ) where
   abbrev pub ageOf : Slot → ℕ

@@ -12,8 +12,8 @@ ghost use lib.ListN.{length};
 ghost use Rattle.wire.specs.Frames.{maxPayload};
 ghost use Rattle.wire.specs.Delivered.{over};
 ghost use Rattle.node.specs.Nodes.{asDelivered};
-ghost use Rattle.node.specs.Tick.{late, due, holdOver, tick};
-ghost use Rattle.node.specs.Stirring.{stirs, mayStir, stirred};
+ghost use Rattle.node.specs.Tick.{late, due, holdOver, dropped, delivered, holdEnded, tick};
+ghost use Rattle.node.specs.Stirring.{mayStir};
 ghost use Rattle.node.specs.Clock.{rolled, unbounded};
 ghost use Rattle.node.specs.Calls.{Call, after, rollOutcome};
 
@@ -48,7 +48,7 @@ impl Message {
 
 impl Slot {
     // Held by a receiver, unconfirmed in 2M, and older than the confirm delay.
-    fn late(self, age: u16) -> bool
+    pub fn late(self, age: u16) -> bool
         ensures { λ r. ⌜ r ≡ late age self ⌝ }
     {
         let s = self.settings;
@@ -79,7 +79,7 @@ impl Slot {
     }
 
     // Held by a sender, and older than data reach and deliver delay.
-    fn hold_over(self, age: u16) -> bool
+    pub fn hold_over(self, age: u16) -> bool
         ensures { λ r. ⌜ r ≡ holdOver age self ⌝ }
     {
         let s = self.settings;
@@ -107,44 +107,36 @@ impl Slot {
         false
     }
 
-    // Whether a tick changes the slot: of the three tests above only one can hold.
-    pub fn stirs(self, age: u16) -> bool
-        ensures { λ r. ⌜ r ≡ stirs age self ⌝ }
+    // The message is gone, and an abort is pending.
+    pub fn dropped(mut self) -> Slot
+        ensures { λ r. ⌜ r ≡ dropped self ⌝ }
     {
-        let s = self.settings;
-        let m = self.message;
-        if s.role == Settings::SEND {
-            return self.hold_over(age);
-        }
-        if (s.class == Settings::TWO_MESSAGE) & !m.confirmed {
-            return self.late(age);
-        }
-        self.due(age)
+        let after_drop = Message::NONE;
+        let mut p = self.pending;
+        p.abort = true;
+        self.message = after_drop;
+        self.pending = p;
+        self
     }
 
-    // What a tick makes of a slot that it changes.
-    pub fn stirred(mut self) -> Slot
-        ensures { λ r. ⌜ r ≡ stirred self ⌝ }
+    // The message is gone.
+    pub fn delivered(mut self) -> Slot
+        ensures { λ r. ⌜ r ≡ delivered self ⌝ }
     {
-        let s = self.settings;
-        let mut m = self.message;
-        if s.role == Settings::SEND {
-            m.stamp = 0;
-            m.held = false;
-            m.confirmed = false;
-            self.message = m;
-            return self;
-        }
-        if (s.class == Settings::TWO_MESSAGE) & !m.confirmed {
-            let after_drop = Message::NONE;
-            let mut p = self.pending;
-            p.abort = true;
-            self.message = after_drop;
-            self.pending = p;
-            return self;
-        }
         let after_delivery = Message::NONE;
         self.message = after_delivery;
+        self
+    }
+
+    // A sender's message is held no longer.
+    pub fn hold_ended(mut self) -> Slot
+        ensures { λ r. ⌜ r ≡ holdEnded self ⌝ }
+    {
+        let mut m = self.message;
+        m.stamp = 0;
+        m.held = false;
+        m.confirmed = false;
+        self.message = m;
         self
     }
 }
@@ -182,13 +174,19 @@ impl Node {
                 // Read again, so that of the slots that do not stir only a few fields are read.
                 let old = self.slots[i];
                 if old.due(a) {
-                    self.slots[i] = old.stirred();
+                    self.slots[i] = old.delivered();
                     let message = old.message;
                     let bytes = message.all_bytes();
                     let n = message.payload_length();
                     at += write_record(&mut out[at..], old.stream, &bytes[0..n]);
-                } else if old.stirs(a) {
-                    self.slots[i] = old.stirred();
+                } else {
+                    // And again: a slot that is not due then shares nothing with one that is.
+                    let other = self.slots[i];
+                    if other.late(a) {
+                        self.slots[i] = other.dropped();
+                    } else if other.hold_over(a) {
+                        self.slots[i] = other.hold_ended();
+                    }
                 }
             }
         }

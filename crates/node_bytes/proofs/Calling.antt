@@ -1,20 +1,23 @@
 -- What a call on a lent node answers and leaves, from what the node's own call does.
 use mathlib.Core.Path.{_≡_, refl, sym, ap, _∙_}
-use mathlib.Core.Bool.{true, false}
 use mathlib.Core.List.{List}
 use Prim.Native.Nat.{ℕ}
 use borrow.Author.Tests.{eq-eqb, ne-eqb}
 use lib.ListN.{length}
+use lib.Seq.{sets, length-sets}
 use Rattle.wire.specs.declared.reply.Reply.{Reply}
 use Rattle.wire.specs.declared.reply.Reply.the-variants.{Done, BadLength}
+use Rattle.wire.specs.Delivered.{over}
+use Rattle.node.specs.declared.slots.Slot.{Slot}
 use Rattle.node.specs.declared.Node.{Node}
 use Rattle.node.specs.declared.Answered.{Answered}
 use Rattle.node.specs.Nodes.{Outcome, refused, done, asAnswered}
 use Rattle.node.specs.Clock.{rolled}
 use Rattle.node.specs.Calls.{Call, outcome}
-use Rattle.node_bytes.specs.Layout.{nodeSize}
+use Rattle.node_bytes.specs.Layout.{slotStart, nodeSize}
 use Rattle.node_bytes.specs.Decoding.{decode}
-use Rattle.node_bytes.specs.Lent.{isNode}
+use Rattle.node_bytes.specs.Encoding.{encodeSlot}
+use Rattle.node_bytes.specs.Lent.{withSlot}
 use Rattle.node_bytes.specs.LentCalls.{lentOutcome, Leaves}
 
 module _ (c : Call) (before : List ℕ) where
@@ -28,6 +31,21 @@ module _ (c : Call) (before : List ℕ) where
     ap (λ (a : Answered). a .reply) (sym e),
     record { length-stays = refl; node = ap (λ (a : Answered). a .node) (sym e); refused-unchanged = λ other. refl },
   )
+
+  -- what is answered and left, where a call writes to a lent output
+  module _ {R : Type 0} (answer : Outcome → R) (output : List ℕ) where
+    abbrev pub AllTold : R → (out after : List ℕ) → Type 0
+    AllTold r out after = (r ≡ answer (lentOutcome c before)) × ((out ≡ over (lentOutcome c before .bytes) output) × Leaves c before after)
+
+    pub all-told : {o : Outcome} {r : R} {out after : List ℕ} → lentOutcome c before ≡ o → r ≡ answer o → out ≡ over (o .bytes) output
+        → Leaves c before after → AllTold r out after
+    all-told e answers writes leaves = (
+      answers ∙ ap answer (sym e),
+      (writes ∙ ap (λ (p : Outcome). over (p .bytes) output) (sym e), leaves),
+    )
+
+    pub refusal-told : (r : Reply) → lentOutcome c before ≡ refused (decode before) r → AllTold (answer (refused (decode before) r)) output before
+    refusal-told r e = all-told e refl refl (left-alone r (ap asAnswered e) .1)
 
   -- ── a buffer of another length ──
   module _ (other : length before ≡ nodeSize → ⊥) where
@@ -58,3 +76,10 @@ module _ (c : Call) (before : List ℕ) where
             refused-unchanged = λ other. absurd (other (sym says));
           },
         )
+
+    -- a slot is stored
+    pub slot-put : (i : ℕ) (x : Slot) (written after : List ℕ)
+        → asAnswered (done (withSlot i x (decode before)) written) ≡ asAnswered (outcome rolled c (decode before))
+        → (after ≡ sets before (slotStart i) (encodeSlot x)) × (decode after ≡ withSlot i x (decode before)) → Told Done after
+    slot-put i x written after e (stored, left) =
+        call-done _ written after e (ap (λ (l : List ℕ). length l) stored ∙ length-sets before (slotStart i) (encodeSlot x)) left

@@ -16,7 +16,7 @@ use Rattle.node.specs.declared.Node.{Node}
 use Rattle.node.specs.declared.Answered.{Answered}
 use Rattle.node.specs.declared.Given.{Given}
 use Rattle.node.specs.Slots.{empty}
-use Rattle.node.specs.Nodes.{slotCount, Outcome, noId, refused, asGiven}
+use Rattle.node.specs.Nodes.{slotCount, noId, refused, asGiven}
 use Rattle.node.specs.NextFrame.{nextRoom, lowestCode, hasFrame, givenOut, payloadFor}
 use Rattle.node.specs.Calls.{Call}
 use Rattle.node.proofs.slots.Finding.{indexOf}
@@ -26,9 +26,9 @@ use Rattle.node_bytes.specs.declared.next_frame.GivenOut.{GivenOut}
 use Rattle.node_bytes.specs.Layout.{nodeSize}
 use Rattle.node_bytes.specs.Decoding.{slotAt, decode}
 use Rattle.node_bytes.specs.Lent.{withSlot}
-use Rattle.node_bytes.specs.LentCalls.{lentOutcome, asGivenOut, Leaves}
+use Rattle.node_bytes.specs.LentCalls.{lentOutcome, asGivenOut}
 use Rattle.node_bytes.proofs.ByIndex.{decoded-slot, decoded-length}
-use Rattle.node_bytes.proofs.Calling.{no-node, not-a-node, as-node, call-refused, call-done}
+use Rattle.node_bytes.proofs.Calling.{AllTold, refusal-told, no-node, as-node, call-refused, call-done}
 
 -- the parts of an answer that are not the node
 abbrev lent : Given → GivenOut
@@ -41,15 +41,11 @@ module _ (output bytes : List ℕ) where
   abbrev call : Call
   call = Call.nextFrame output
 
-  -- what is answered, written and left
   abbrev Gives : GivenOut → (written after : List ℕ) → Type 0
-  Gives g written after =
-      (g ≡ asGivenOut (lentOutcome call bytes)) × ((written ≡ over (lentOutcome call bytes .bytes) output) × Leaves call bytes after)
+  Gives = AllTold call bytes asGivenOut output
 
   pub next-not-a-node : (length bytes ≡ nodeSize → ⊥) → Gives (record { reply = BadLength; id = noId; len = 0 }) output bytes
-  next-not-a-node other =
-      let e = sym (no-node call bytes other) in
-      (ap asGivenOut e, (ap (λ (o : Outcome). over (o .bytes) output) e, not-a-node call bytes other .1))
+  next-not-a-node other = refusal-told call bytes asGivenOut output BadLength (no-node call bytes other)
 
   module _ (whole : length bytes ≡ nodeSize) where
     abbrev n : Node

@@ -11,5 +11,6 @@ pub mod Fitting
 pub mod Lent
 pub mod Calling
 pub mod CallingNext
+pub mod CallingTick
 pub mod Unique
 pub mod WorkedNodes

@@ -10,6 +10,7 @@ use Rattle.wire.specs.declared.reply.Reply.the-variants.{Done, BadLength}
 use Rattle.node.specs.Nodes.{Outcome, refused}
 use Rattle.node.specs.Clock.{rolled}
 use Rattle.node.specs.Calls.{Call, outcome}
+use Rattle.node_bytes.specs.declared.Written.{Written}
 use Rattle.node_bytes.specs.declared.next_frame.GivenOut.{GivenOut}
 use Rattle.node_bytes.specs.Decoding.{decode}
 use Rattle.node_bytes.specs.Lent.{isNode}
@@ -24,6 +25,9 @@ pub record Leaves (c : Call) (before after : List ℕ) : Type 0 where
   pub node : decode after ≡ lentOutcome c before .node
   pub refused-unchanged : lentOutcome c before .reply ≢ Done → after ≡ before
 
--- the outcome as the next frame answers it
+-- the outcome as hear and tick answer it, and as next frame does
+abbrev pub asWritten : Outcome → Written
+asWritten o = record { reply = o .reply; written = length (o .bytes) }
+
 abbrev pub asGivenOut : Outcome → GivenOut
 asGivenOut o = record { reply = o .reply; id = o .id; len = length (o .bytes) }

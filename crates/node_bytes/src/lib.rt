@@ -25,6 +25,8 @@
 //
 // Each public function answers for every buffer and every index. The others ask for a buffer of the
 // node's length and a slot that is there: calls test that once, and then use them.
+use wire::reply::Reply;
+
 pub mod counter;
 mod finding;
 pub mod fresh;
@@ -32,3 +34,10 @@ pub mod layout;
 pub mod next_frame;
 mod numbers;
 pub mod slots;
+pub mod tick;
+
+// What hear and tick answer: how many bytes of the output were written.
+pub struct Written {
+    pub reply: Reply,
+    pub written: usize,
+}

@@ -10,6 +10,7 @@ use crate::numbers::two_at;
 use node::slots::Message;
 use node::slots::Pending;
 use node::slots::Slot;
+use node::tick::age;
 use wire::ids::Stream;
 use wire::settings::Settings;
 ghost use mathlib.Core.Path.{_≡_};
@@ -21,6 +22,9 @@ ghost use Rattle.node.specs.Slots.{isFree, isOf};
 ghost use Rattle.node.specs.Nodes.{slotCount};
 ghost use Rattle.node.specs.Request.{hasPending};
 ghost use Rattle.node.specs.NextFrame.{hasFrame};
+ghost use Rattle.node.specs.Clock.{rolled};
+ghost use Rattle.node.specs.Tick.{ageOf};
+ghost use Rattle.node.specs.Stirring.{mayStir};
 ghost use Rattle.node_bytes.specs.Layout.{slotStart, slotSize, nodeSize};
 ghost use Rattle.node_bytes.specs.Decoding.{settingsFrom, messageFrom, pendingFrom, slotAt, decode};
 ghost use Rattle.node_bytes.specs.Lent.{isNode, readSlot, storeSlot, withSlot};
@@ -161,6 +165,25 @@ pub(crate) fn stamp_at(bytes: &[u8], i: usize) -> u16
     ensures { λ r. ⌜ r ≡ slotAt (now (bytes .entry)) i .message .stamp ⌝ }
 {
     two_at(bytes, layout::STAMP + layout::SLOT_SIZE * i)
+}
+
+// Whether slot i holds a message that is old enough now that a tick may change the slot.
+pub(crate) fn may_stir_at(bytes: &[u8], i: usize, counter: u16) -> bool
+    requires { ⌜ (length (now bytes) ≡ nodeSize) × (i < slotCount) ⌝ }
+    ensures { λ r. ⌜ r ≡ mayStir (ageOf rolled counter (slotAt (now (bytes .entry)) i)) (slotAt (now (bytes .entry)) i) ⌝ }
+{
+    if !held_at(bytes, i) {
+        return false;
+    }
+    let at = layout::SLOT_SIZE * i;
+    let a = age(counter, stamp_at(bytes, i));
+    if a > two_at(bytes, layout::DELIVER_DELAY + at) {
+        return true;
+    }
+    if bytes[layout::CLASS + at] == Settings::TWO_MESSAGE {
+        return a > two_at(bytes, layout::CONFIRM_DELAY + at);
+    }
+    false
 }
 
 // Parts of the slot whose first byte stands at a place.

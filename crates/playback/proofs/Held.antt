@@ -14,11 +14,11 @@ use Rattle.wire.specs.declared.ids.BusId.{BusId}
 use Rattle.wire.specs.declared.settings.Settings.{Settings}
 use Rattle.node.specs.declared.slots.Slot.{Slot}
 use Rattle.node.specs.declared.Node.{Node}
-use Rattle.node.specs.Slots.{noMessage, released, abortPending, slotFor, isFree, withParts, withMessage, onFirst}
+use Rattle.node.specs.Slots.{slotFor, isFree, onFirst}
 use Rattle.node.specs.Nodes.{Outcome}
 use Rattle.node.specs.SetUp.{lessFree, inPlace, setUp}
 use Rattle.node.specs.Hear.{hear}
-use Rattle.node.specs.Tick.{lapsed, late, due, holdOver, ageOf, tickSlot, tickRoom, tick}
+use Rattle.node.specs.Tick.{late, due, holdOver, dropped, delivered, holdEnded, lapsed, ageOf, tickSlot, tickRoom, tick}
 use Rattle.node.specs.Clock.{unbounded}
 use Rattle.node.specs.Calls.{Call, outcome, afterFrom}
 use Rattle.node.specs.Reachable.{longest, KeptSlot, All, Kept}
@@ -45,8 +45,7 @@ unfolding lapsed
 same-or-unheld age x = go (late age x) (due age x) (holdOver age x)
   where
     by : (l d o : Bool) → Slot
-    by l d o =
-        cond l (withParts x noMessage (abortPending (x .pending))) (cond d (withMessage noMessage x) (cond o (withMessage (released (x .message)) x) x))
+    by l d o = cond l (dropped x) (cond d (delivered x) (cond o (holdEnded x) x))
 
     go : (l d o : Bool) → (by l d o ≡ x) ⊎ (by l d o .message .held ≡ false)
     go true d o = inr refl

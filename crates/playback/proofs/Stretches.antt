@@ -5,40 +5,36 @@ use mathlib.Core.List.{List, [], _∷_}
 use Prim.Native.Nat.{ℕ, zero, suc, _+_, _-_, _%_, _≤_, _<_, min}
 use native.Mathlib.Nat.{add-zero}
 use native.Mathlib.Omega.{arith}
-use borrow.Author.Tests.{eqb-true, eqb-false}
 use Rattle.wire.specs.Settings.{sends, isTwoMessage}
 use Rattle.node.specs.declared.slots.Slot.{Slot}
 use Rattle.node.specs.declared.Node.{Node}
-use Rattle.node.specs.Slots.{some}
 use Rattle.node.specs.Nodes.{Outcome, done}
 use Rattle.node.specs.Tick.{holdLength, ageOf, recordsFrom, tick}
-use Rattle.node.specs.Stirring.{mayStir, stirs}
 use Rattle.node.specs.Clock.{Clock, period, unbounded, rolled}
 use Rattle.node.specs.Calls.{Call, outcome, afterFrom, Answer, answerOf, answersFrom}
 use Rattle.node.specs.Reachable.{longest, All}
 use Rattle.node.proofs.Choices.{contrary}
 use Rattle.node.proofs.slots.Table.{all-weaken}
 use Rattle.node.proofs.tick.Cases.{tick-cases}
-use Rattle.node.proofs.tick.Stirring.{stirs-sender, stirs-waiting, stirs-ready, young-is-not-late, young-is-not-due, young-is-held-on, young-is-still}
-use Rattle.node.proofs.tick.Stirring.{stirsAt, still-tick}
+use Rattle.node.proofs.tick.Stirring.{young-is-not-late, young-is-not-due, young-is-held-on, sender-is-not-late, sender-is-not-due, waiting-is-not-due}
+use Rattle.node.proofs.tick.Stirring.{ready-is-not-late, other-is-not-over, Still, unheld-is-still, StillAt, still-tick}
 use Rattle.playback.specs.Deliveries.{room}
 use Rattle.playback.specs.Quiet.{withSlot, quietIn, quiet, standing, ticks, silent, NothingButCounts, JumpIsTicking, RolledJumpIsTicking}
 use Rattle.playback.specs.Quiet.{QuietWithoutEnd}
 
 -- ── a slot ──
 -- what is no older than it gets at the longest is not changed
-young-is-quiet : (age : ℕ) (x : Slot) → age ≤ longest (x .settings) (x .message) → stirs age x ≡ false
+young-is-quiet : (age : ℕ) (x : Slot) → age ≤ longest (x .settings) (x .message) → Still age x
 young-is-quiet age x young = go (sends (x .settings)) (isTwoMessage (x .settings) && not (x .message .confirmed)) refl refl young
   where
     go : (own waits : Bool) → sends (x .settings) ≡ own → isTwoMessage (x .settings) && not (x .message .confirmed) ≡ waits
-        → age ≤ cond own (holdLength (x .settings)) (cond waits (x .settings .dc) (x .settings .dd)) → stirs age x ≡ false
-    go true waits e f h = sym (stirs-sender age x (eqb-true _ _ e)) ∙ sym (young-is-held-on age x h)
-    go false true e f h = sym (stirs-waiting age x (eqb-false _ _ e) f) ∙ sym (young-is-not-late age x h)
-    go false false e f h = sym (stirs-ready age x (eqb-false _ _ e) f) ∙ sym (young-is-not-due age x h)
-
-unheld-is-quiet : (age : ℕ) (x : Slot) → x .message .held ≡ false → stirs age x ≡ false
-unfolding mayStir
-unheld-is-quiet age x h = young-is-still age x (rw h)
+        → age ≤ cond own (holdLength (x .settings)) (cond waits (x .settings .dc) (x .settings .dd)) → Still age x
+    go true waits e f h =
+        record { not-late = sender-is-not-late age x e; not-due = sender-is-not-due age x e; not-over = sym (young-is-held-on age x h) }
+    go false true e f h =
+        record { not-late = sym (young-is-not-late age x h); not-due = waiting-is-not-due age x f; not-over = other-is-not-over age x e }
+    go false false e f h =
+        record { not-late = ready-is-not-late age x f; not-due = sym (young-is-not-due age x h); not-over = other-is-not-over age x e }
 
 -- ── a stretch ──
 module _ (clock : Clock) where
@@ -68,24 +64,21 @@ module _ (clock : Clock) where
 
   -- a tick makes nothing older by more than one
   module _ (steady : (now stamp : ℕ) → clock .age (clock .next now) stamp ≤ clock .age now stamp + 1) where
-    quiet-slot : (now k : ℕ) (x : Slot) → Stays now (suc k) x → stirsAt clock (clock .next now) x ≡ false
+    quiet-slot : (now k : ℕ) (x : Slot) → Stays now (suc k) x → StillAt clock (clock .next now) x
     quiet-slot now k x stays = go (x .message .held) refl
       where
-        go : (held : Bool) → x .message .held ≡ held → stirsAt clock (clock .next now) x ≡ false
+        go : (held : Bool) → x .message .held ≡ held → StillAt clock (clock .next now) x
         go true e = young-is-quiet _ x (omega (arith, steady now (x .message .stamp), stays e))
-        go false e = unheld-is-quiet _ x e
-
-    none-stirs : (now k : ℕ) (xs : List Slot) → All (Stays now (suc k)) xs → some (stirsAt clock (clock .next now)) xs ≡ false
-    unfolding some
-    none-stirs now k [] all = refl
-    none-stirs now k (x ∷ xs) (here, others) = rw (quiet-slot now k x here, none-stirs now k xs others)
+        go false e = unheld-is-still _ x e
 
     -- one tick
     quiet-tick : (k : ℕ) (n : Node) → All (Stays (n .counter) (suc k)) (n .slots)
         → outcome clock (Call.tick room) n ≡ done (standing (clock .next (n .counter)) n) []
     unfolding recordsFrom
     quiet-tick k n all =
-        let (same, none) = still-tick clock (clock .next (n .counter)) (n .slots) (none-stirs (n .counter) k (n .slots) all) in
+        let now = clock .next (n .counter) in
+        let still = all-weaken (Stays (n .counter) (suc k)) (StillAt clock now) (quiet-slot (n .counter) k) (n .slots) all in
+        let (same, none) = still-tick clock now (n .slots) still in
         tick-cases room clock n .accepted-if (record { room = omega arith }) ∙ rw (same, none)
 
     goes-on : (now k : ℕ) (xs : List Slot) → All (Stays now (suc k)) xs → All (Stays (clock .next now) k) xs

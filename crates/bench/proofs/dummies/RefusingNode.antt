@@ -7,14 +7,14 @@ use Rattle.wire.specs.declared.ids.Stream.{Stream}
 use Rattle.wire.specs.declared.settings.Settings.{Settings}
 use Rattle.node.specs.declared.slots.Slot.{Slot}
 use Rattle.node.specs.declared.Node.{Node}
-use Rattle.node.specs.Slots.{slotFor, noMessage, released, abortPending, empty, first, isOf, isReceiver, isSender, withParts, withMessage}
+use Rattle.node.specs.Slots.{slotFor, empty, first, isOf, isReceiver, isSender}
 use Rattle.node.specs.Nodes.{fresh, slotCount, slotOf, Outcome}
 use Rattle.node.specs.Reachable.{All}
 use Rattle.node.specs.Clock.{Clock, unbounded}
 use Rattle.node.specs.SetUp.{setUp}
 use Rattle.node.specs.Request.{request, requested}
 use Rattle.node.specs.NextFrame.{nextFrame, give, givenOut, hasFrame, lowestCode, lowestGiven}
-use Rattle.node.specs.Tick.{late, due, holdOver, lapsed, tick, ageOf, tickSlot, dueSlots}
+use Rattle.node.specs.Tick.{late, due, holdOver, dropped, delivered, holdEnded, lapsed, tick, ageOf, tickSlot, dueSlots}
 use Rattle.node.specs.Calls.{afterFrom}
 use Rattle.node.proofs.Choices.{contrary, refuted}
 use Rattle.node.proofs.Cases.{by-case}
@@ -42,11 +42,7 @@ unheld-lapsed : (age : ℕ) (x : Slot) → Unheld x → Unheld (lapsed age x)
 unfolding lapsed
 unheld-lapsed age x u = by-tests (late age x) (due age x) (holdOver age x)
   where
-    by-tests : (l d o : Bool)
-        → Unheld
-        (cond l (withParts x noMessage (abortPending (x .pending)))
-        (cond d (withMessage noMessage x)
-        (cond o (withMessage (released (x .message)) x) x)))
+    by-tests : (l d o : Bool) → Unheld (cond l (dropped x) (cond d (delivered x) (cond o (holdEnded x) x)))
     by-tests true d o = λ r. refl
     by-tests false true o = λ r. refl
     by-tests false false true = λ r. refl

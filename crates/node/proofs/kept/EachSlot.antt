@@ -23,7 +23,7 @@ use Rattle.node.specs.Reachable.{longest, KeptMessage, KeptPending, Kept
 use Rattle.node.specs.Hear.{dataHeard, confirmationHeard, abortHeard, heardBy}
 use Rattle.node.specs.Request.{requested}
 use Rattle.node.specs.NextFrame.{givenOut}
-use Rattle.node.specs.Tick.{late, due, holdOver, lapsed}
+use Rattle.node.specs.Tick.{late, due, holdOver, dropped, delivered, holdEnded, lapsed}
 use Rattle.node.proofs.Choices.{contrary}
 use Rattle.node.proofs.kept.LawfulSettings.{Lawful, lawful}
 use Rattle.node.proofs.tick.Tests.{Settled, late-tells, due-tells, hold-over-tells}
@@ -160,7 +160,7 @@ kept-parts now x k used m p km kp = record { free = λ h. contrary used h; lawfu
 pub not-sender : (s : Settings) → receives s ≡ true → sends s ≡ false
 not-sender s r = ne-eqb (s .role) 1 (λ e. omega (arith, eqb-true (s .role) 0 r))
 
-pub imd-not-two : (s : Settings) → isImd s ≡ true → isTwoMessage s ≡ false
+imd-not-two : (s : Settings) → isImd s ≡ true → isTwoMessage s ≡ false
 imd-not-two s i = ne-eqb (s .class) 2 (λ e. omega (arith, eqb-true (s .class) 1 i))
 
 pub two-not-plain : (s : Settings) → isTwoMessage s ≡ true → isPlain s ≡ false
@@ -214,10 +214,7 @@ kept-lapsed now x k = by-tests (late age x) (due age x) (holdOver age x) refl re
     age = now + 1 - x .message .stamp
 
     by-tests : (l d o : Bool) → late age x ≡ l → due age x ≡ d → holdOver age x ≡ o
-        → KeptSlot (now + 1)
-        (cond l (withParts x noMessage (abortPending (x .pending)))
-        (cond d (withMessage noMessage x)
-        (cond o (withMessage (released (x .message)) x) x)))
+        → KeptSlot (now + 1) (cond l (dropped x) (cond d (delivered x) (cond o (holdEnded x) x)))
     by-tests true d o is-late _ _ =
         let t = late-tells age x .says is-late in
         kept-parts (now + 1) x k (t .used) _ _ (kept-nothing _ _) (kept-abort _ _ (k .pending) (t .receiver) (t .two-message))

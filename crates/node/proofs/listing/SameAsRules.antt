@@ -9,17 +9,17 @@ use lib.Dec.{ltb}
 use borrow.Author.Tests.{ltb-true, ltb-false, lt-ltb, le-ltb}
 use Rattle.wire.specs.Settings.{receives, sends, isImd, isTwoMessage}
 use Rattle.node.specs.declared.slots.Slot.{Slot}
-use Rattle.node.specs.Slots.{noMessage, abortPending, withParts, withMessage}
 use Rattle.node.specs.Hear.{heardBy}
 use Rattle.node.specs.Request.{requested}
 use Rattle.node.specs.NextFrame.{payloadFor, givenOut}
-use Rattle.node.specs.Tick.{late, due, holdOver, lapsed}
+use Rattle.node.specs.Tick.{late, due, holdOver, dropped, delivered, lapsed}
 use Rattle.node.specs.Listing.{Frame, Intervals, ReceivedSet, Ruled, leaves, aborts, delivers, receive, deliverOrAbort}
 use Rattle.node.specs.SameAsListing.{intervals, received, listed, codeFor, payloadIn, Reliable, forgotten, deliveredBy, Event, heardFrame}
 use Rattle.node.specs.SameAsListing.{tickedSlot, slotShows, listingShows, Fair, SameAsListing, SendsAsListing}
 use Rattle.node.proofs.Choices.{contrary, refuted}
 use Rattle.node.proofs.slots.Streams.{Kind, kindOf, heard-keeps, lapsed-keeps}
 use Rattle.node.proofs.tick.Tests.{late-tells, due-tells}
+use Rattle.node.proofs.tick.Stirring.{late-is-dropped, due-is-delivered}
 use Rattle.node.proofs.kept.EachSlot.{not-sender, two-not-plain}
 use Rattle.node.proofs.EarlierErrors.{unconfirmed-never-due}
 
@@ -114,9 +114,9 @@ module _ (now : ℕ) (x : Slot) (used : x .used ≡ true) (r : receives (x .sett
 
       by-time : (t : Bool) → ltb (x .message .stamp + x .settings .dc) now ≡ t → Ticked now x (deliverOrAbort now (listed x))
       by-time true et =
-          let dropped : lapsed age x ≡ withParts x noMessage (abortPending (x .pending)) = rw (late-is e ec ∙ et) in
+          let gone : lapsed age x ≡ dropped x = sym (late-is-dropped age x (late-is e ec ∙ et)) in
           let ruled : deliverOrAbort now (listed x) ≡ aborts = rw (e, ec, et) in
-          rw ruled (record { same-set = rw dropped; same-aborts = rw dropped (sym (or-true (x .pending .abort))) }, rw not-due)
+          rw ruled (record { same-set = rw gone; same-aborts = rw gone (sym (or-true (x .pending .abort))) }, rw not-due)
       by-time false et = still-follows (late-is e ec ∙ et) not-due (rw (e, ec, et))
 
   -- confirmed
@@ -130,7 +130,7 @@ module _ (now : ℕ) (x : Slot) (used : x .used ≡ true) (r : receives (x .sett
       by-time : (t : Bool) → ltb (x .message .stamp + x .settings .dd) now ≡ t → Ticked now x (deliverOrAbort now (listed x))
       by-time true et =
           let is-due : due age x ≡ true = due-is e ec ∙ et in
-          let gone : lapsed age x ≡ withMessage noMessage x = rw (not-late, is-due) in
+          let gone : lapsed age x ≡ delivered x = sym (due-is-delivered age x is-due) in
           let m = received (x .settings) (x .message) in
           let ruled : deliverOrAbort now (listed x) ≡ delivers (m .payload) (m .times) = rw (e, ec, et) in
           rw ruled (record { same-set = rw gone; same-aborts = rw gone (sym (or-false (x .pending .abort))) }, rw is-due)

@@ -16,9 +16,7 @@ use Rattle.node.specs.Slots.{payloadOf}
 use Rattle.node.specs.Nodes.{slotCount, withSlots}
 use Rattle.node.specs.Clock.{Clock}
 use Rattle.node.specs.Hear.{hearRoom}
-use Rattle.node.specs.Tick.{tickRoom, due, ageOf, tickSlot, dueSlots, recordFrom, recordsFrom}
-use Rattle.node.specs.Stirring.{stirs, stirred}
-use Rattle.node.proofs.tick.Stirring.{still-stays, stirring-lapses}
+use Rattle.node.specs.Tick.{tickRoom, due, lapsed, ageOf, tickSlot, dueSlots, recordFrom, recordsFrom}
 use Rattle.node.proofs.slots.Payloads.{part-within, part-is-payload}
 use Rattle.node.proofs.slots.Upward.{changed, all-changed, changed-not-yet, changed-one-more, changed-one-kept}
 
@@ -49,15 +47,15 @@ module _ {clock : Clock} {now : ℕ} {n₀ n : Node} {i : ℕ} (l : Lapsing cloc
     with-slots slots = withSlots slots n₀
 
     module _ (age : ℕ) (a : age ≡ ageOf clock now slot) where
-      pub one-stays : stirs age slot ≡ false → Lapsing clock now n₀ n (i + 1)
+      pub one-stays : lapsed age slot ≡ slot → Lapsing clock now n₀ n (i + 1)
       one-stays s =
-          let stays : tickSlot clock now slot ≡ slot = still-stays (ageOf clock now slot) slot (rw a at s) in
+          let stays : tickSlot clock now slot ≡ slot = rw a at s in
           let kept = changed-one-kept (tickSlot clock now) i (n₀ .slots) d within (rw slot-as-it-was at stays) in
           record { many = l .many; node-is = l .node-is ∙ ap with-slots kept }
 
-      pub one-lapses : stirs age slot ≡ true → (x : Slot) → x ≡ stirred slot → Lapsing clock now n₀ (withSlots (set (n .slots) i x) n) (i + 1)
-      one-lapses s x e =
-          let lapses : x ≡ tickSlot clock now slot = e ∙ stirring-lapses (ageOf clock now slot) slot (rw a at s) in
+      pub one-lapses : (x : Slot) → x ≡ lapsed age slot → Lapsing clock now n₀ (withSlots (set (n .slots) i x) n) (i + 1)
+      one-lapses x e =
+          let lapses : x ≡ tickSlot clock now slot = rw a at e in
           record {
             many = l .many;
             node-is =

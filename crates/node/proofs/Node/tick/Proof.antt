@@ -1,5 +1,5 @@
 -- `Node::tick` meets its contract. The loop goes up through the slots, with those passed lapsed and their records written: a slot
--- that is due lapses and has its record written, another that stirs lapses, and the others stay.
+-- that is due is delivered and has its record written, one that is late is dropped, a hold that is over ends, and the others stay.
 use borrow.Author.Needs.{needs}
 use native.Mathlib.Omega.{arith}
 use mathlib.Core.Path.{_≡_, sym, _∙_}
@@ -9,7 +9,7 @@ use Rattle.node.specs.Nodes.{slotCount}
 use Rattle.node.specs.Hear.{hearRoom}
 use Rattle.node.specs.Clock.{rolled}
 use Rattle.node.proofs.slots.Finding.{noSlot, length-of-mapped}
-use Rattle.node.proofs.tick.Stirring.{young-is-still, still-is-not-due, due-stirs}
+use Rattle.node.proofs.tick.Stirring.{late-is-dropped, due-is-delivered, over-is-ended, still-stays, young-is-still}
 use Rattle.node.proofs.tick.OnePass.{Lapsing, lapsing-at-first, all-lapsed, slot-as-it-was, one-stays, one-lapses}
 use Rattle.node.proofs.tick.OnePass.{Writing, writing-at-first, all-written, writing-keeps-length, has-room, written-is-small}
 use Rattle.node.proofs.tick.OnePass.{one-is-not-due, lent-within, one-is-written}
@@ -75,7 +75,7 @@ loop-again c =
     let age = aged .age .ensures in
     let due = sym (tested .before .due .ensures) ∙ tested .if3 .taken in
     let same = slot-as-it-was (l .1) noSlot h in
-    let lapses = one-lapses (l .1) noSlot h _ age (due-stirs _ _ due) _ (made .before .before .stirred .ensures) in
+    let lapses = one-lapses (l .1) noSlot h _ age _ (made .before .before .delivered .ensures ∙ due-is-delivered _ _ due) in
     let writes =
     one-is-written (l .2) noSlot h _ same _ age _ (made .all-bytes .ensures) _ (counted .payload-length .ensures) due _ _
     (c .before .before .write-record .ensures) in
@@ -83,30 +83,52 @@ loop-again c =
 
 loop-again-2 : tie.Need-loop-again-2 Inv-loop μ-loop
 loop-again-2 c =
-    let tested = c .before .before .before in
+    let tested = c .before .before .before .before in
     let aged = tested .before .before .before .before .before in
     let turn = aged .before .before in
     let h = turn .loop-test .taken in
     let l = turn .before .loop .inv in
     let age = aged .age .ensures in
     let not-due = sym (tested .before .due .ensures) ∙ tested .if3 .left in
-    let stirs = sym (c .before .before .stirs .ensures) ∙ c .before .if4 .taken in
+    let late = sym (c .before .before .late .ensures) ∙ c .before .if4 .taken in
     let same = slot-as-it-was (l .1) noSlot h in
-    (omega arith, one-lapses (l .1) noSlot h _ age stirs _ (c .stirred2 .ensures), one-is-not-due (l .2) noSlot h _ same _ age not-due)
+    let lapses = one-lapses (l .1) noSlot h _ age _ (c .dropped .ensures ∙ late-is-dropped _ _ late) in
+    (omega arith, lapses, one-is-not-due (l .2) noSlot h _ same _ age not-due)
 
 loop-again-3 : tie.Need-loop-again-3 Inv-loop μ-loop
 loop-again-3 c =
-    let aged = c .before .before .before .before .before .before .before in
+    let asked = c .before .before .before in
+    let tested = asked .before .before .before in
+    let aged = tested .before .before .before .before .before in
     let turn = aged .before .before in
     let h = turn .loop-test .taken in
     let l = turn .before .loop .inv in
     let age = aged .age .ensures in
-    let still = sym (c .before .stirs .ensures) ∙ c .if4 .left in
+    let not-due = sym (tested .before .due .ensures) ∙ tested .if3 .left in
+    let not-late = sym (asked .before .late .ensures) ∙ asked .if4 .left in
+    let over = sym (c .before .before .hold-over .ensures) ∙ c .before .if5 .taken in
     let same = slot-as-it-was (l .1) noSlot h in
-    (omega arith, one-stays (l .1) noSlot h _ age still, one-is-not-due (l .2) noSlot h _ same _ age (still-is-not-due _ _ still))
+    let lapses = one-lapses (l .1) noSlot h _ age _ (c .hold-ended .ensures ∙ over-is-ended _ _ not-late not-due over) in
+    (omega arith, lapses, one-is-not-due (l .2) noSlot h _ same _ age not-due)
 
 loop-again-4 : tie.Need-loop-again-4 Inv-loop μ-loop
 loop-again-4 c =
+    let asked = c .before .before in
+    let tested = asked .before .before .before in
+    let aged = tested .before .before .before .before .before in
+    let turn = aged .before .before in
+    let h = turn .loop-test .taken in
+    let l = turn .before .loop .inv in
+    let age = aged .age .ensures in
+    let not-due = sym (tested .before .due .ensures) ∙ tested .if3 .left in
+    let not-late = sym (asked .before .late .ensures) ∙ asked .if4 .left in
+    let not-over = sym (c .before .hold-over .ensures) ∙ c .if5 .left in
+    let same = slot-as-it-was (l .1) noSlot h in
+    let stays = still-stays _ _ (record { not-late = not-late; not-due = not-due; not-over = not-over }) in
+    (omega arith, one-stays (l .1) noSlot h _ age stays, one-is-not-due (l .2) noSlot h _ same _ age not-due)
+
+loop-again-5 : tie.Need-loop-again-5 Inv-loop μ-loop
+loop-again-5 c =
     let aged = c .before .before in
     let turn = aged .before .before in
     let h = turn .loop-test .taken in
@@ -114,7 +136,7 @@ loop-again-4 c =
     let age = aged .age .ensures in
     let still = young-is-still _ _ (sym (c .before .may-stir .ensures) ∙ c .if2 .left) in
     let same = slot-as-it-was (l .1) noSlot h in
-    (omega arith, one-stays (l .1) noSlot h _ age still, one-is-not-due (l .2) noSlot h _ same _ age (still-is-not-due _ _ still))
+    (omega arith, one-stays (l .1) noSlot h _ age (still-stays _ _ still), one-is-not-due (l .2) noSlot h _ same _ age (still .not-due))
 
 -- ── done ──
 same-length : tie.Need-same-length Inv-loop μ-loop
@@ -159,15 +181,23 @@ tick-spec =
     add-at
     (λ c. search needs)
     loop-again
+    (λ c. search needs)
+    (λ c. search needs)
     (λ c κs. search needs)
     (λ c κs. search needs)
     (λ c. search needs)
     (λ c. search needs)
     (λ c. search needs)
     loop-again-2
+    (λ c κs. search needs)
+    (λ c κs. search needs)
+    (λ c. search needs)
+    (λ c. search needs)
     (λ c. search needs)
     loop-again-3
     (λ c. search needs)
     loop-again-4
+    (λ c. search needs)
+    loop-again-5
     same-length
     returns-2)

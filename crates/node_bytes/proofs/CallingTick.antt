@@ -1,0 +1,123 @@
+-- The tick of a lent node: its loop, stated of the nodes that the bytes are, and what its ways answer and leave.
+use mathlib.Core.Path.{_≡_, refl, sym, ap, _∙_}
+use mathlib.Core.Bool.{true, false}
+use mathlib.Core.List.{List, []}
+use Prim.Native.Nat.{ℕ, _+_, _≤_, _<_}
+use native.Mathlib.Omega.{arith}
+use borrow.Author.Tests.{lt-ltb}
+use lib.ListN.{length, getD}
+use lib.Seq.{sets, length-sets}
+use Rattle.wire.specs.declared.reply.Reply.the-variants.{Done, BadLength, ShortOutput}
+use Rattle.wire.specs.Frames.{maxPayload}
+use Rattle.node.specs.declared.slots.Slot.{Slot}
+use Rattle.node.specs.declared.Node.{Node}
+use Rattle.node.specs.Slots.{empty}
+use Rattle.node.specs.Nodes.{slotCount, done, asAnswered}
+use Rattle.node.specs.Clock.{rolled}
+use Rattle.node.specs.Tick.{tickRoom, due, lapsed, ageOf, dueSlots, recordsFrom, ticked, tick}
+use Rattle.node.specs.Stirring.{mayStir}
+use Rattle.node.specs.Calls.{Call}
+use Rattle.node.proofs.Cases.{here}
+use Rattle.node.proofs.tick.Cases.{tick-cases}
+use Rattle.node.proofs.tick.Stirring.{Still, still-stays, young-is-still}
+use Rattle.node.proofs.tick.OnePass.{Lapsing, lapsing-at-first, all-lapsed, slot-as-it-was, one-stays, one-lapses}
+use Rattle.node.proofs.tick.OnePass.{Writing, writing-at-first, all-written, one-is-not-due}
+use Rattle.node_bytes.specs.Layout.{slotStart, nodeSize}
+use Rattle.node_bytes.specs.Decoding.{slotFrom, slotAt, decode}
+use Rattle.node_bytes.specs.Encoding.{encodeSlot}
+use Rattle.node_bytes.specs.Lent.{withSlot, withCounter}
+use Rattle.node_bytes.specs.LentCalls.{asWritten}
+use Rattle.node_bytes.proofs.ByIndex.{decoded-slot, decoded-length}
+use Rattle.node_bytes.proofs.Calling.{AllTold, all-told, refusal-told, no-node, as-node, call-done}
+
+-- ── the loop ──
+-- of the slots of bytes₀, those before i have lapsed in the bytes, and the records of those that are due stand before `at`
+pub record Ticking (now : ℕ) (bytes₀ out₀ bytes out : List ℕ) (i at : ℕ) : Type 0 where
+  pub whole : length bytes ≡ nodeSize
+  pub lapsing : Lapsing rolled now (decode bytes₀) (decode bytes) i
+  pub writing : Writing rolled now (decode bytes₀ .slots) out₀ out i at
+
+pub ticking-at-first : (now : ℕ) (bytes out : List ℕ) → length bytes ≡ nodeSize → tickRoom ≤ length out → Ticking now bytes out bytes out 0 0
+ticking-at-first now bytes out whole room =
+    let many = decoded-length bytes in
+    record {
+      whole = whole;
+      lapsing = lapsing-at-first rolled now (decode bytes) many;
+      writing = writing-at-first rolled now (decode bytes .slots) out many room;
+    }
+
+module _ {now : ℕ} {bytes₀ out₀ bytes out : List ℕ} {i at : ℕ} (t : Ticking now bytes₀ out₀ bytes out i at) (h : i < slotCount) where
+  -- the slot that was read
+  module _ (x : Slot) (there : x ≡ slotAt bytes i) where
+    as-decoded : x ≡ getD (decode bytes .slots) i empty
+    as-decoded = there ∙ sym (decoded-slot bytes i empty h)
+
+    pub read-as-it-was : x ≡ getD (decode bytes₀ .slots) i empty
+    read-as-it-was = as-decoded ∙ slot-as-it-was (t .lapsing) empty h
+
+    pub eight-bytes : (x .message .bytes ≡ x .message .bytes) × (length (x .message .bytes) ≡ maxPayload)
+    unfolding slotFrom
+    eight-bytes = (refl, ap (λ (y : Slot). length (y .message .bytes)) there)
+
+    module _ (age : ℕ) (a : age ≡ ageOf rolled now x) where
+      not-due : due age x ≡ false → Writing rolled now (decode bytes₀ .slots) out₀ out (i + 1) at
+      not-due e = one-is-not-due (t .writing) empty h x read-as-it-was age a e
+
+      pub slot-stays : Still age x → Ticking now bytes₀ out₀ bytes out (i + 1) at
+      slot-stays still =
+          record {
+            whole = t .whole;
+            lapsing = one-stays (t .lapsing) empty h age (rw as-decoded at a) (rw as-decoded at (still-stays age x still));
+            writing = not-due (still .not-due);
+          }
+
+      module _ (y : Slot) (made : y ≡ lapsed age x) (after : List ℕ)
+          (put : (after ≡ sets bytes (slotStart i) (encodeSlot y)) × (decode after ≡ withSlot i y (decode bytes))) where
+        -- and whatever is written for it
+        pub slot-lapses : {out₁ : List ℕ} {at₁ : ℕ} → Writing rolled now (decode bytes₀ .slots) out₀ out₁ (i + 1) at₁
+            → Ticking now bytes₀ out₀ after out₁ (i + 1) at₁
+        slot-lapses writing =
+            record {
+              whole = ap length (put .0) ∙ length-sets bytes (slotStart i) (encodeSlot y) ∙ t .whole;
+              lapsing = rw (put .1) (one-lapses (t .lapsing) empty h age (rw as-decoded at a) y (rw as-decoded at made));
+              writing = writing;
+            }
+
+        pub slot-lapses-unwritten : due age x ≡ false → Ticking now bytes₀ out₀ after out (i + 1) at
+        slot-lapses-unwritten e = slot-lapses (not-due e)
+
+  pub slot-is-young : mayStir (ageOf rolled now (slotAt bytes i)) (slotAt bytes i) ≡ false → Ticking now bytes₀ out₀ bytes out (i + 1) at
+  slot-is-young e = slot-stays (slotAt bytes i) refl _ refl (young-is-still _ _ e)
+
+-- ── the call ──
+module _ (output bytes : List ℕ) where
+  abbrev call : Call
+  call = Call.tick output
+
+  abbrev n : Node
+  n = decode bytes
+
+  pub tick-not-a-node : (length bytes ≡ nodeSize → ⊥) → AllTold call bytes asWritten output (record { reply = BadLength; written = 0 }) output bytes
+  tick-not-a-node other = refusal-told call bytes asWritten output BadLength (no-node call bytes other)
+
+  module _ (whole : length bytes ≡ nodeSize) where
+    pub tick-refused : length output < tickRoom → AllTold call bytes asWritten output (record { reply = ShortOutput; written = 0 }) output bytes
+    tick-refused short =
+        refusal-told call bytes asWritten output ShortOutput
+        (as-node call bytes whole ∙ tick-cases output rolled n .refused-if ShortOutput (here (lt-ltb _ _ short)))
+
+    -- the counter was stored, and then the slots were passed
+    module _ (room : tickRoom ≤ length output) (now : ℕ) (e : now ≡ rolled .next (n .counter)) (bytes₀ : List ℕ)
+        (counted : decode bytes₀ ≡ withCounter now n) {after out : List ℕ} {i at : ℕ} (t : Ticking now bytes₀ output after out i at) (past : slotCount ≤ i) where
+      does : tick rolled output n ≡ done (ticked rolled n) (recordsFrom (dueSlots rolled now (n .slots)))
+      does = rw e (tick-cases output rolled n .accepted-if (record { room = room }))
+
+      left : decode after ≡ ticked rolled n
+      left = all-lapsed (t .lapsing) past ∙ rw (counted, e)
+
+      pub tick-is-done : AllTold call bytes asWritten output (record { reply = Done; written = at }) out after
+      tick-is-done =
+          let wrote = rw counted at (all-written (t .writing) past) in
+          all-told call bytes asWritten output (as-node call bytes whole ∙ does)
+          (rw (wrote .0)) (wrote .1)
+          (call-done call bytes whole (ticked rolled n) [] after (ap asAnswered (sym does)) (t .whole ∙ sym whole) left .1)

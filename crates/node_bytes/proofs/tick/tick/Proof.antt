@@ -1,0 +1,217 @@
+-- `tick` meets its contract. The loop goes up through the slots, with those passed lapsed and their records written: a slot
+-- that is due lapses and has its record written, one that is late or whose hold is over lapses, and the others stay.
+use borrow.Author.Needs.{needs}
+use native.Mathlib.Omega.{arith}
+use mathlib.Core.Path.{_≡_, sym, ap, _∙_}
+use Prim.Native.Nat.{_+_, _-_, _≤_, _<_}
+use lib.ListN.{length}
+use lib.Seq.{length-sets}
+use denote.Ref.{now}
+use Rattle.wire.specs.Delivered.{littleEndian}
+use Rattle.node.specs.Slots.{empty}
+use Rattle.node.specs.Nodes.{slotCount}
+use Rattle.node.specs.Hear.{hearRoom}
+use Rattle.node.specs.Clock.{rolled}
+use Rattle.node.proofs.tick.Stirring.{due-is-delivered, late-is-dropped, over-is-ended}
+use Rattle.node.proofs.tick.OnePass.{writing-keeps-length, has-room, lent-within, written-is-small, one-is-written}
+use Rattle.node_bytes.specs.Layout.{counterAt, nodeSize}
+use Rattle.node_bytes.proofs.ByIndex.{decoded-counter}
+use Rattle.node_bytes.proofs.CallingTick.{Ticking, ticking-at-first, slot-is-young, slot-stays, slot-lapses, slot-lapses-unwritten}
+use Rattle.node_bytes.proofs.CallingTick.{read-as-it-was, eight-bytes, tick-not-a-node, tick-refused, tick-is-done}
+use Rattle.node_bytes.proofs.tick.tick.Statement.{statement}
+use Rattle.node_bytes.proofs.tick.tick.Tie as tie
+
+abbrev Inv-loop : tie.InvT-loop
+Inv-loop bytes₀ out₀ now at₀ passed₀ bytes out at passed = (passed ≤ slotCount) × Ticking now bytes₀ out₀ bytes out passed at
+
+abbrev μ-loop : tie.MeasureT-loop
+μ-loop bytes₀ out₀ now at₀ passed₀ bytes out at passed = slotCount - passed
+
+-- ── refused ──
+returns : tie.Need-returns Inv-loop μ-loop
+returns c =
+    let a = c .before .before .before .args in
+    tick-not-a-node (now (a .out)) (now (a .bytes)) (c .if1 .taken)
+
+returns-2 : tie.Need-returns-2 Inv-loop μ-loop
+returns-2 c =
+    let a = c .before .before .before .before .args in
+    tick-refused (now (a .out)) (now (a .bytes)) (c .before .if1 .left) (c .if2 .taken)
+
+-- ── the slots ──
+loop-holds : tie.Need-loop-holds Inv-loop μ-loop
+loop-holds c =
+    let put = c .before .before in
+    let tested = put .before .before .before .before .before in
+    let whole = tested .before .if1 .left in
+    let bytes = now (tested .before .before .before .before .args .bytes) in
+    let stays = ap length (put .put-counter .ensures .0) ∙ length-sets bytes counterAt (littleEndian 2 (put .before .before .next .result)) in
+    (omega arith, ticking-at-first _ _ _ (stays ∙ whole) (tested .if2 .left))
+
+-- the longest record fits behind those that are written
+room : (c : tie.In-loop Inv-loop μ-loop) → c .before .loop .at + hearRoom ≤ length (c .before .loop .out)
+room c = has-room (c .before .loop .inv .1 .writing) empty (c .loop-test .taken)
+
+-- slot i is there
+inside : (c : tie.In-loop Inv-loop μ-loop) → (length (c .before .loop .bytes) ≡ nodeSize) × (c .before .loop .passed < slotCount)
+inside c = (c .before .loop .inv .1 .whole, c .loop-test .taken)
+
+payload-end : tie.Need-part-write-record-end-2 Inv-loop μ-loop
+payload-end c =
+    let counted = c .before .before in
+    let aged = counted .before .before .before .before .before .before .before .before .before .before in
+    let turn = aged .before .before .before .before .before .before in
+    let h = turn .loop-test .taken in
+    let t = turn .before .loop .inv .1 in
+    let there = aged .before .slot-at .ensures in
+    lent-within (t .writing) empty h _ (read-as-it-was t h _ there) _ (aged .age .ensures) _ (eight-bytes t h _ there) _ (counted .payload-length .ensures)
+
+add-at : tie.Need-add-at Inv-loop μ-loop
+add-at c =
+    let counted = c .before .before .before .before .before .before in
+    let aged = counted .before .before .before .before .before .before .before .before .before .before in
+    let turn = aged .before .before .before .before .before .before in
+    let h = turn .loop-test .taken in
+    let t = turn .before .loop .inv .1 in
+    let there = aged .before .slot-at .ensures in
+    let small =
+    written-is-small (t .writing) empty h _ (read-as-it-was t h _ there) _ (aged .age .ensures) _ (eight-bytes t h _ there) _
+    (counted .payload-length .ensures) _ (c .before .before .write-record .ensures .0) in
+    omega (arith, room turn, small)
+
+loop-again : tie.Need-loop-again Inv-loop μ-loop
+loop-again c =
+    let counted = c .before .before .before .before .before .before in
+    let put = counted .before .before .before .before .before in
+    let tested = put .before .before .before in
+    let aged = tested .before .before in
+    let turn = aged .before .before .before .before .before .before in
+    let h = turn .loop-test .taken in
+    let t = turn .before .loop .inv .1 in
+    let there = aged .before .slot-at .ensures in
+    let age = aged .age .ensures in
+    let due = sym (tested .before .due .ensures) ∙ tested .if4 .taken in
+    let writes =
+    one-is-written (t .writing) empty h _ (read-as-it-was t h _ there) _ age _ (eight-bytes t h _ there) _ (counted .payload-length .ensures) due _ _
+    (c .before .before .write-record .ensures) in
+    (omega arith, slot-lapses t h _ there _ age _ (put .before .delivered .ensures ∙ due-is-delivered _ _ due) _ (put .put-slot .ensures) writes)
+
+loop-again-2 : tie.Need-loop-again-2 Inv-loop μ-loop
+loop-again-2 c =
+    let put = c .before .before in
+    let asked = put .before .before .before in
+    let tested = asked .before .before in
+    let aged = tested .before .before in
+    let turn = aged .before .before .before .before .before .before in
+    let not-due = sym (tested .before .due .ensures) ∙ tested .if4 .left in
+    let late = sym (asked .before .late .ensures) ∙ asked .if5 .taken in
+    (
+      omega arith,
+      slot-lapses-unwritten (turn .before .loop .inv .1) (turn .loop-test .taken) _ (aged .before .slot-at .ensures) _ (aged .age .ensures)
+      _ (put .before .dropped .ensures ∙ late-is-dropped _ _ late) _ (put .put-slot2 .ensures) not-due,
+    )
+
+loop-again-3 : tie.Need-loop-again-3 Inv-loop μ-loop
+loop-again-3 c =
+    let put = c .before .before in
+    let over = put .before .before .before in
+    let asked = over .before .before in
+    let tested = asked .before .before in
+    let aged = tested .before .before in
+    let turn = aged .before .before .before .before .before .before in
+    let not-due = sym (tested .before .due .ensures) ∙ tested .if4 .left in
+    let not-late = sym (asked .before .late .ensures) ∙ asked .if5 .left in
+    let is-over = sym (over .before .hold-over .ensures) ∙ over .if6 .taken in
+    (
+      omega arith,
+      slot-lapses-unwritten (turn .before .loop .inv .1) (turn .loop-test .taken) _ (aged .before .slot-at .ensures) _ (aged .age .ensures)
+      _ (put .before .hold-ended .ensures ∙ over-is-ended _ _ not-late not-due is-over) _ (put .put-slot3 .ensures) not-due,
+    )
+
+loop-again-4 : tie.Need-loop-again-4 Inv-loop μ-loop
+loop-again-4 c =
+    let asked = c .before .before in
+    let tested = asked .before .before in
+    let aged = tested .before .before in
+    let turn = aged .before .before .before .before .before .before in
+    let not-due = sym (tested .before .due .ensures) ∙ tested .if4 .left in
+    let not-late = sym (asked .before .late .ensures) ∙ asked .if5 .left in
+    let not-over = sym (c .before .hold-over .ensures) ∙ c .if6 .left in
+    (
+      omega arith,
+      slot-stays (turn .before .loop .inv .1) (turn .loop-test .taken) _ (aged .before .slot-at .ensures) _ (aged .age .ensures)
+      (record { not-late = not-late; not-due = not-due; not-over = not-over }),
+    )
+
+loop-again-5 : tie.Need-loop-again-5 Inv-loop μ-loop
+loop-again-5 c =
+    let turn = c .before .before .before in
+    let young = sym (c .before .may-stir-at .ensures) ∙ c .if3 .left in
+    (omega arith, slot-is-young (turn .before .loop .inv .1) (turn .loop-test .taken) young)
+
+-- ── done ──
+same-length : tie.Need-same-length Inv-loop μ-loop
+same-length c = c .before .loop .inv .1 .whole ∙ sym (c .before .before .before .before .before .before .before .before .before .before .if1 .left)
+
+same-length-2 : tie.Need-same-length-2 Inv-loop μ-loop
+same-length-2 c = let l = c .before .loop .inv in writing-keeps-length (l .1 .writing) (l .0)
+
+returns-3 : tie.Need-returns-3 Inv-loop μ-loop
+returns-3 c =
+    let l = c .before in
+    let put = l .before .before .before in
+    let next = put .before .before in
+    let tested = next .before .before .before in
+    let a = tested .before .before .before .before .args in
+    let bytes = now (a .bytes) in
+    let counts = next .next .ensures ∙ ap (rolled .next) (next .before .counter-of .ensures ∙ sym (decoded-counter bytes)) in
+    tick-is-done (now (a .out)) bytes (tested .before .if1 .left) (tested .if2 .left) _ counts _ (put .put-counter .ensures .1) (l .loop .inv .1)
+    (c .loop-test .left)
+
+pub tick-spec : {M : Type 1} → statement M
+tick-spec =
+    tie.close
+    (tie.spec
+    Inv-loop
+    μ-loop
+    returns
+    returns-2
+    (λ c κs. search needs)
+    (λ c κs. search needs)
+    (λ c κs. search needs)
+    loop-holds
+    (λ c. search needs)
+    (λ c κs. inside (c .before))
+    (λ c κs. inside (c .before .before .before .before))
+    (λ c κs. search needs)
+    (λ c κs. search needs)
+    (λ c κs. search needs)
+    (λ c κs. inside (c .before .before .before .before .before .before .before .before .before .before))
+    (λ c κs. search needs)
+    (λ c. omega (arith, room (c .before .before .before .before .before .before .before .before .before .before .before .before .before .before .before .before)))
+    (λ c. omega (arith, room (c .before .before .before .before .before .before .before .before .before .before .before .before .before .before .before .before)))
+    (λ c. search needs)
+    (λ c. search needs)
+    (λ c. search needs)
+    payload-end
+    (λ c κs. search needs)
+    add-at
+    (λ c. omega (arith, inside (c .before .before .before .before .before .before .before .before .before .before .before .before .before .before .before .before .before .before .before .before .before .before)))
+    loop-again
+    (λ c κs. search needs)
+    (λ c κs. search needs)
+    (λ c κs. inside (c .before .before .before .before .before .before .before .before .before .before .before .before))
+    (λ c. omega (arith, inside (c .before .before .before .before .before .before .before .before .before .before .before .before .before .before .before)))
+    loop-again-2
+    (λ c κs. search needs)
+    (λ c κs. search needs)
+    (λ c κs. inside (c .before .before .before .before .before .before .before .before .before .before .before .before .before .before))
+    (λ c. omega (arith, inside (c .before .before .before .before .before .before .before .before .before .before .before .before .before .before .before .before .before)))
+    loop-again-3
+    (λ c. omega (arith, inside (c .before .before .before .before .before .before .before .before .before .before .before .before)))
+    loop-again-4
+    (λ c. search needs)
+    loop-again-5
+    same-length
+    same-length-2
+    returns-3)
