@@ -4,7 +4,7 @@ use mathlib.Core.List.{List}
 use Prim.Native.Nat.{ℕ}
 use borrow.Author.Tests.{eq-eqb, ne-eqb}
 use lib.ListN.{length}
-use lib.Seq.{sets, length-sets}
+use lib.Seq.{sets}
 use Rattle.wire.specs.declared.reply.Reply.{Reply}
 use Rattle.wire.specs.declared.reply.Reply.the-variants.{Done, BadLength}
 use Rattle.wire.specs.Delivered.{over}
@@ -19,6 +19,7 @@ use Rattle.node_bytes.specs.Decoding.{decode}
 use Rattle.node_bytes.specs.Encoding.{encodeSlot}
 use Rattle.node_bytes.specs.Lent.{withSlot}
 use Rattle.node_bytes.specs.LentCalls.{lentOutcome, Leaves}
+use Rattle.node_bytes.proofs.Stored.{stored-length}
 
 module _ (c : Call) (before : List ℕ) where
   -- what is answered and left
@@ -67,8 +68,7 @@ module _ (c : Call) (before : List ℕ) where
         → length after ≡ length before → decode after ≡ m → Told Done after
     call-done m written after e long left =
         let f = e ∙ ap asAnswered (sym as-node) in
-        let says = ap (λ (a : Answered). a .reply) f in
-        (
+        let says = ap (λ (a : Answered). a .reply) f in (
           says,
           record {
             length-stays = long;
@@ -82,4 +82,4 @@ module _ (c : Call) (before : List ℕ) where
         → asAnswered (done (withSlot i x (decode before)) written) ≡ asAnswered (outcome rolled c (decode before))
         → (after ≡ sets before (slotStart i) (encodeSlot x)) × (decode after ≡ withSlot i x (decode before)) → Told Done after
     slot-put i x written after e (stored, left) =
-        call-done _ written after e (ap (λ (l : List ℕ). length l) stored ∙ length-sets before (slotStart i) (encodeSlot x)) left
+        call-done _ written after e (stored-length before after i x stored) left

@@ -6,7 +6,7 @@ pub mod ByIndex
 pub mod NodeRoundTrip
 pub mod AreBytes
 pub mod Stored
-pub mod Found
+pub mod Searching
 pub mod Fitting
 pub mod Lent
 pub mod Calling

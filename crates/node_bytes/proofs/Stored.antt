@@ -7,7 +7,7 @@ use Prim.Native.Nat.{ℕ, _+_, _<_}
 use native.Mathlib.Omega.{arith}
 use borrow.Author.Tests.{ltb-true, ltb-false, eqb-true, eqb-false}
 use lib.ListN.{length, getD, set, take, drop, length-set}
-use lib.Seq.{sets, sets-eq, length-take-le, ext-getD, getD-set-same, getD-set-other}
+use lib.Seq.{sets, sets-eq, length-sets, length-take-le, ext-getD, getD-set-same, getD-set-other}
 use lib.Dec.{eqb, ltb}
 use Rattle.wire.specs.Delivered.{littleEndian, numberAt}
 use Rattle.node.specs.declared.slots.Slot.{Slot}
@@ -29,6 +29,10 @@ either j i other = by-test (ltb j i) refl
     by-test : (t : Bool) → ltb j i ≡ t → (j < i) ⊎ (i < j)
     by-test true e = inl (ltb-true j i e)
     by-test false e = inr (omega (arith, ltb-false j i e, other))
+
+-- a store leaves the length
+pub stored-length : (before after : List ℕ) (i : ℕ) (x : Slot) → after ≡ sets before (slotStart i) (encodeSlot x) → length after ≡ length before
+stored-length before after i x e = ap (λ (l : List ℕ). length l) e ∙ length-sets before (slotStart i) (encodeSlot x)
 
 -- ── a slot ──
 module _ (bytes : List ℕ) (i : ℕ) (x : Slot) (whole : length bytes ≡ nodeSize) (inside : i < slotCount) (fits : SlotFits x) where

@@ -1,7 +1,8 @@
--- Every public promise is met by one answer only, and leaves a lent buffer one content only.
+-- Every public promise is met by one answer only, and leaves a lent buffer one content only, or one node.
 use denote.Ref.{now}
 use Rattle.wire.specs.Uniqueness.{OneAnswer, OneContent}
 use Rattle.wire.proofs.Unique.{same}
+use Rattle.node_bytes.specs.LentCalls.{OneNode}
 use Rattle.node_bytes.proofs.layout.is_node.Reads as is-node
 use Rattle.node_bytes.proofs.layout.is_slot.Reads as is-slot
 use Rattle.node_bytes.proofs.slots.read_slot.Reads as read-slot
@@ -14,6 +15,9 @@ use Rattle.node_bytes.proofs.slots.stamp.Reads as stamp
 use Rattle.node_bytes.proofs.counter.read_counter.Reads as read-counter
 use Rattle.node_bytes.proofs.counter.store_counter.Reads as store-counter
 use Rattle.node_bytes.proofs.fresh.fresh.Reads as fresh
+use Rattle.node_bytes.proofs.request.request.Reads as request
+use Rattle.node_bytes.proofs.hear.hear.Reads as hear
+use Rattle.node_bytes.proofs.set_up.set_up.Reads as set-up
 
 pub is-node-unique : OneAnswer is-node.Post
 is-node-unique l input a b s t = same
@@ -53,3 +57,25 @@ fresh-unique l input a b s t p q = same (p .0) (q .0)
 
 pub fresh-content-unique : OneContent fresh.Post (λ l e. now (e .0))
 fresh-content-unique l input a b s t p q = same (p .1) (q .1)
+
+-- ── the calls ──
+pub set-up-unique : OneAnswer set-up.Post
+set-up-unique l input a b s t p q = same (p .0) (q .0)
+
+pub set-up-node-unique : OneNode set-up.Post (λ l e. now (e .0))
+set-up-node-unique l input a b s t p q = same (p .1 .node) (q .1 .node)
+
+pub request-unique : OneAnswer request.Post
+request-unique l input a b s t p q = same (p .0) (q .0)
+
+pub request-node-unique : OneNode request.Post (λ l e. now (e .0))
+request-node-unique l input a b s t p q = same (p .1 .node) (q .1 .node)
+
+pub hear-unique : OneAnswer hear.Post
+hear-unique l input a b s t p q = same (p .0) (q .0)
+
+pub hear-content-unique : OneContent hear.Post (λ l e. now (e .1 .1 .1 .1 .0))
+hear-content-unique l input a b s t p q = same (p .1 .0) (q .1 .0)
+
+pub hear-node-unique : OneNode hear.Post (λ l e. now (e .0))
+hear-node-unique l input a b s t p q = same (p .1 .1 .node) (q .1 .1 .node)

@@ -2,7 +2,7 @@
 -- length than a node's is refused as BadLength.
 use mathlib.Core.Path.{_≡_}
 use mathlib.Core.Logic.{_≢_}
-use mathlib.Core.Bool.{true, cond}
+use mathlib.Core.Bool.{cond}
 use mathlib.Core.List.{List}
 use Prim.Native.Nat.{ℕ}
 use lib.ListN.{length}
@@ -31,3 +31,9 @@ asWritten o = record { reply = o .reply; written = length (o .bytes) }
 
 abbrev pub asGivenOut : Outcome → GivenOut
 asGivenOut o = record { reply = o .reply; id = o .id; len = length (o .bytes) }
+
+-- for every input any two contents of the lent bytes that meet a promise are the same node
+module _ {L : Type 0} {I A E : L → Type 0} where
+  abbrev pub OneNode : ((l : L) → I l → A l → E l → Type 0) → ((l : L) → E l → List ℕ) → Type 0
+  OneNode promise content =
+      (l : L) (input : I l) (a b : A l) (s t : E l) → promise l input a s → promise l input b t → decode (content l s) ≡ decode (content l t)

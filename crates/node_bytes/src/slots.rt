@@ -25,6 +25,7 @@ ghost use Rattle.node.specs.NextFrame.{hasFrame};
 ghost use Rattle.node.specs.Clock.{rolled};
 ghost use Rattle.node.specs.Tick.{ageOf};
 ghost use Rattle.node.specs.Stirring.{mayStir};
+ghost use Rattle.node.proofs.set_up.Placing.{isAfter};
 ghost use Rattle.node_bytes.specs.Layout.{slotStart, slotSize, nodeSize};
 ghost use Rattle.node_bytes.specs.Decoding.{settingsFrom, messageFrom, pendingFrom, slotAt, decode};
 ghost use Rattle.node_bytes.specs.Lent.{isNode, readSlot, storeSlot, withSlot};
@@ -131,6 +132,15 @@ pub(crate) fn free_at(bytes: &[u8], i: usize) -> bool
     ensures { λ r. ⌜ r ≡ isFree (slotAt (now (bytes .entry)) i) ⌝ }
 {
     !flag_at(bytes, layout::USED + layout::SLOT_SIZE * i)
+}
+
+// Whether a slot of this stream is to stand before slot i: it is free, or its stream is higher.
+pub(crate) fn after_at(bytes: &[u8], i: usize, stream: Stream) -> bool
+    requires { ⌜ (length (now bytes) ≡ nodeSize) × (i < slotCount) ⌝ }
+    ensures { λ r. ⌜ r ≡ isAfter stream (slotAt (now (bytes .entry)) i) ⌝ }
+{
+    let at = layout::SLOT_SIZE * i;
+    !flag_at(bytes, layout::USED + at) | (stream.0 < four_at(bytes, layout::STREAM + at))
 }
 
 pub(crate) fn pending_at(bytes: &[u8], i: usize) -> bool

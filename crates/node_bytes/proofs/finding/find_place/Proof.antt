@@ -1,0 +1,48 @@
+-- `find_place` meets its contract: no slot before the loop's i is free or of a higher stream.
+use borrow.Author.Needs.{needs}
+use native.Mathlib.Omega.{arith}
+use Prim.Native.Nat.{_-_}
+use denote.Ref.{now}
+use Rattle.node.proofs.set_up.Placing.{isAfter}
+use Rattle.node.specs.Nodes.{slotCount}
+use Rattle.node_bytes.proofs.Searching.{NotYet, not-yet, it-is, it-is-not, nowhere}
+use Rattle.node_bytes.proofs.finding.find_place.Statement.{statement}
+use Rattle.node_bytes.proofs.finding.find_place.Tie as tie
+
+abbrev Inv-loop : tie.InvT-loop
+Inv-loop bytes stream i₀ i = NotYet (isAfter stream) bytes i
+
+abbrev μ-loop : tie.MeasureT-loop
+μ-loop bytes stream i₀ i = slotCount - i
+
+returns : tie.Need-returns Inv-loop μ-loop
+returns c =
+    let l = c .before .before .before in
+    let a = l .before .before .args in
+    it-is (isAfter (a .stream)) (now (a .bytes)) (l .loop .i) (l .loop .inv) (omega arith) (c .before .after-at .ensures) (c .if1 .taken)
+
+loop-again : tie.Need-loop-again Inv-loop μ-loop
+loop-again c =
+    let l = c .before .before .before in
+    let a = l .before .before .args in
+    it-is-not (isAfter (a .stream)) (now (a .bytes)) (l .loop .i) (l .loop .inv) (omega arith) (c .before .after-at .ensures) (c .if1 .left)
+
+returns-2 : tie.Need-returns-2 Inv-loop μ-loop
+returns-2 c =
+    let l = c .before in
+    let a = l .before .before .args in
+    nowhere (isAfter (a .stream)) (now (a .bytes)) (l .loop .i) (l .loop .inv) (omega arith)
+
+pub find-place-spec : {M : Type 1} → statement M
+find-place-spec =
+    tie.close
+    (tie.spec
+    Inv-loop
+    μ-loop
+    (λ c. let a = c .before .args in not-yet (isAfter (a .stream)) (now (a .bytes)))
+    (λ c κs. search needs)
+    returns
+    (λ c. search needs)
+    (λ c. search needs)
+    loop-again
+    returns-2)

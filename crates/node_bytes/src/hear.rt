@@ -1,0 +1,68 @@
+// Hearing a frame, on a lent node.
+use crate::Written;
+use crate::counter::counter_of;
+use crate::finding::find;
+use crate::layout;
+use crate::slots::put_slot;
+use crate::slots::slot_at;
+use node::Node;
+use node::hear::deliver_plain;
+use wire::frame::bad_frame;
+use wire::ids::BusId;
+use wire::reply::Reply;
+ghost use mathlib.Core.Path.{_≡_};
+ghost use Rattle.wire.specs.Delivered.{over};
+ghost use Rattle.node.specs.Calls.{Call};
+ghost use Rattle.node_bytes.specs.LentCalls.{lentOutcome, asWritten, Leaves};
+
+// Takes in a frame that the controller received.
+pub fn hear(bytes: &mut [u8], id: BusId, dlc: u8, payload: &[u8], out: &mut [u8]) -> Written
+    ensures answer { λ r. ⌜ r ≡ asWritten (lentOutcome (Call.hear id dlc (now (payload .entry)) (now (out .entry))) (now (bytes .entry))) ⌝ }
+    ensures output { λ _. ⌜ now (out .exit)
+        ≡ over (lentOutcome (Call.hear id dlc (now (payload .entry)) (now (out .entry))) (now (bytes .entry)) .bytes) (now (out .entry)) ⌝ }
+    ensures leaves { λ _. ⌜ Leaves (Call.hear id dlc (now (payload .entry)) (now (out .entry))) (now (bytes .entry)) (now (bytes .exit)) ⌝ }
+{
+    if bytes.len() != layout::NODE_SIZE {
+        return Written {
+            reply: Reply::BadLength,
+            written: 0,
+        };
+    }
+    if out.len() < Node::HEAR_ROOM {
+        return Written {
+            reply: Reply::ShortOutput,
+            written: 0,
+        };
+    }
+    if bad_frame(id, dlc, payload) {
+        return Written {
+            reply: Reply::BadFrame,
+            written: 0,
+        };
+    }
+    let parts = id.split();
+    let stream = parts.stream;
+    let code = parts.code;
+    let i = find(bytes, stream);
+    if i >= Node::SLOTS {
+        return Written {
+            reply: Reply::NotMine,
+            written: 0,
+        };
+    }
+    let slot = slot_at(bytes, i);
+    let reply = slot.hear_reply(code, payload);
+    if reply.number() != 0 {
+        return Written {
+            reply: reply,
+            written: 0,
+        };
+    }
+    let heard = slot.hear(counter_of(bytes), code, payload);
+    put_slot(bytes, i, heard);
+    let written = deliver_plain(out, stream, code, payload);
+    Written {
+        reply: Reply::Done,
+        written: written,
+    }
+}
