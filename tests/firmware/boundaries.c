@@ -433,6 +433,11 @@ static void lent_node(void)
     SAME(given.id, 24);
     SAME(given.length, 8);
     SAME(changed(lent.output + EDGE, payload, 8), 0);
+    was = lent;
+    given = kosmydore_module_next_frame(NODE, OUTPUT(KOSMYDORE_NEXT_FRAME_OUTPUT), TALLY);
+    counted(__LINE__, "next_frame", given.reply, KOSMYDORE_DONE, 0);
+    SAME(given.id, 25);
+    SAME(given.length, 0);
 
     /* a full table, a tally of another length, and counts at the most */
     for (stream = 7; stream < 7 + KOSMYDORE_SLOTS - 2; stream++)
