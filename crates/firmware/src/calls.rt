@@ -1,8 +1,10 @@
 // The node's calls for C. The node goes in and comes back by value, and the reply is its number.
+use crate::judged::SettingsC;
+use crate::judged::dlc_of;
+use crate::judged::settings_of;
 use node::Node;
 use wire::ids::BusId;
 use wire::ids::Stream;
-use wire::settings::Settings;
 ghost use mathlib.Core.Path.{_≡_};
 ghost use Rattle.wire.specs.Delivered.{over};
 ghost use Rattle.node.specs.Nodes.{fresh, asAnswered, asDelivered, asGiven};
@@ -13,6 +15,7 @@ ghost use Rattle.node.specs.Tick.{tick};
 ghost use Rattle.node.specs.Request.{request};
 ghost use Rattle.node.specs.NextFrame.{nextFrame};
 ghost use Rattle.firmware.specs.Answers.{answeredC, deliveredC, givenC};
+ghost use Rattle.firmware.specs.Judged.{inNumbers};
 
 // What set up and request answer.
 #[repr(C)]
@@ -46,10 +49,11 @@ pub extern "C" fn kosmydore_fresh() -> Node
 }
 
 #[no_mangle]
-pub extern "C" fn kosmydore_set_up(node: Node, stream: u32, settings: Settings) -> AnsweredC
-    ensures { λ r. ⌜ r ≡ answeredC (asAnswered (setUp (record { 0 = stream }) settings node)) ⌝ }
+pub extern "C" fn kosmydore_set_up(node: Node, stream: u32, settings: SettingsC) -> AnsweredC
+    ensures { λ r. ⌜ r ≡ answeredC (asAnswered (setUp (record { 0 = stream }) (inNumbers settings) node)) ⌝ }
 {
-    let answer = node.set_up(Stream(stream), settings);
+    let judged = settings_of(stream, settings);
+    let answer = node.set_up(Stream(stream), judged);
     let after = answer.node;
     let reply = answer.reply;
     AnsweredC {
@@ -62,14 +66,15 @@ pub extern "C" fn kosmydore_set_up(node: Node, stream: u32, settings: Settings) 
 pub extern "C" fn kosmydore_hear(
     node: Node,
     id: u32,
-    dlc: u8,
+    dlc: u32,
     payload: &[u8],
     out: &mut [u8],
 ) -> DeliveredC
     ensures { λ r. ⌜ (r ≡ deliveredC (asDelivered (hear (record { 0 = id }) dlc (now (payload .entry)) (now (out .entry)) node)))
         × (now (out .exit) ≡ over (hear (record { 0 = id }) dlc (now (payload .entry)) (now (out .entry)) node .bytes) (now (out .entry))) ⌝ }
 {
-    let answer = node.hear(BusId(id), dlc, payload, out);
+    let judged = dlc_of(dlc);
+    let answer = node.hear(BusId(id), judged, payload, out);
     let after = answer.node;
     let reply = answer.reply;
     DeliveredC {

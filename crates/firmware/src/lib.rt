@@ -12,6 +12,8 @@ ghost use Rattle.wire.specs.Delivered.{recordLength};
 ghost use Rattle.firmware.specs.Boundary.{settingsReply};
 
 pub mod calls;
+pub mod judged;
+pub mod lent;
 
 // The reply to joining a stream and a code.
 #[no_mangle]

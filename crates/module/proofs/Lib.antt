@@ -1,5 +1,6 @@
 pub mod Places
 pub mod Counts
+pub mod LentCounts
 pub mod Counting
 pub mod Locals
 pub mod Calling

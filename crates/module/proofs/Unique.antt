@@ -12,7 +12,7 @@ use denote.Ref.{now}
 use denote.Triple.Clauses.{AtExit}
 use denote.Triple.Entry.{Args, Res}
 use Rattle.wire.specs.declared.reply.Reply.{Reply}
-use Rattle.wire.specs.Uniqueness.{OneAnswer}
+use Rattle.wire.specs.Uniqueness.{OneAnswer, OneContent}
 use Rattle.wire.proofs.Unique.{same}
 use Rattle.node.specs.Calls.{Call, setUp, hear, tick, request, nextFrame}
 use Rattle.module.specs.declared.tally.Tally.{Tally}
@@ -20,9 +20,11 @@ use Rattle.module.specs.Tallies.{tallied}
 use Rattle.module.specs.Histories.{Counting, Returned, Left, Promised}
 use Rattle.module.proofs.tally.Tally.numbers.Reads as numbers
 use Rattle.module.proofs.tally.Tally.place.Reads as place
+use Rattle.module.proofs.tally.Tally.place_of.Reads as place-of
 use Rattle.module.proofs.tally.Tally.zero.Reads as zero
 use Rattle.module.proofs.tally.Tally.counted.Reads as counted
 use Rattle.module.proofs.tally.count as count
+use Rattle.module.proofs.tally.count_in.Reads as count-in
 use Rattle.module.proofs.calls.set_up as set-up
 use Rattle.module.proofs.calls.hear as hearing
 use Rattle.module.proofs.calls.tick as ticking
@@ -35,11 +37,20 @@ numbers-unique l input a b s t = same
 pub place-unique : OneAnswer place.Post
 place-unique l input a b s t = same
 
+pub place-of-unique : OneAnswer place-of.Post
+place-of-unique l input a b s t = same
+
 pub zero-unique : OneAnswer zero.Post
 zero-unique l input a b s t = same
 
 pub counted-unique : OneAnswer counted.Post
 counted-unique l input a b s t = same
+
+pub count-in-unique : OneAnswer count-in.Post
+count-in-unique l input a b s t p q = same (p .0) (q .0)
+
+pub count-in-content-unique : OneContent count-in.Post (λ l e. now (e .0))
+count-in-content-unique l input a b s t p q = same (p .1) (q .1)
 
 -- what `count` makes of the lent tally
 pub count-unique : (t : Tally) (reply : Reply) (w w′ : Tally) → w ≡ tallied t reply → w′ ≡ tallied t reply → w ≡ w′

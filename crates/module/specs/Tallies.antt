@@ -1,6 +1,7 @@
 -- The tally: the numbers that it counts, what one more reply makes of it, and what it is after a list of replies.
 use Prim.Native.Nat.{ℕ, suc, _+_, min}
-use mathlib.Core.Bool.{cond}
+use mathlib.Core.Path.{_≡_}
+use mathlib.Core.Bool.{Bool, cond, _&&_}
 use mathlib.Core.List.{List, [], _∷_, map}
 use lib.ListN.{length, getD, set, replicate}
 use lib.Dec.{eqb, ltb}
@@ -53,3 +54,18 @@ capped n = min n most
 -- the tally of a list of replies: for each number, in the tally's order, how often it was given
 abbrev pub tallyOf : List Reply → Tally
 tallyOf rs = record { counts = map (λ n. capped (occurrences n rs)) counted }
+
+-- ── in lent counts, by the reply's number ──
+-- they are a tally's, and the number is one that is counted
+abbrev pub hasCount : (number : ℕ) → (counts : List ℕ) → Bool
+hasCount n counts = eqb (length counts) (length counted) && ltb (position n counted) (length counted)
+
+-- its count goes up by one, unless it is at the most
+unfoldable pub countedIn : (number : ℕ) → (counts : List ℕ) → List ℕ
+countedIn n counts =
+    let count = getD counts (position n counted) 0 in
+    cond (hasCount n counts && ltb count most) (set counts (position n counted) (count + 1)) counts
+
+-- the number of a reply is counted as the reply is
+abbrev pub CountedAsTally : Type 0
+CountedAsTally = (t : Tally) (r : Reply) → length (t .counts) ≡ length counted → countedIn (numberOf r) (t .counts) ≡ tallied t r .counts

@@ -1,7 +1,7 @@
 // The tally: a count for each reply number that the node's calls answer.
 use wire::reply::Reply;
 ghost use mathlib.Core.Path.{_≡_};
-ghost use Rattle.module.specs.Tallies.{counted, placeOf, zeroTally, tallied};
+ghost use Rattle.module.specs.Tallies.{counted, position, placeOf, zeroTally, tallied, hasCount, countedIn};
 
 pub struct Tally {
     // In the order of `Tally::NUMBERS`.
@@ -34,11 +34,10 @@ impl Tally {
         Tally::ZERO
     }
 
-    // Where the count of a reply stands.
-    pub fn place(reply: Reply) -> usize
-        ensures { λ r. ⌜ r ≡ placeOf reply ⌝ }
+    // Where the count of a number stands; past the last, where it has none.
+    pub fn place_of(number: u32) -> usize
+        ensures { λ r. ⌜ r ≡ position number counted ⌝ }
     {
-        let number = reply.number();
         let mut i: usize = 0;
         while i < Tally::SIZE {
             if Tally::NUMBERS[i] == number {
@@ -47,6 +46,13 @@ impl Tally {
             i += 1;
         }
         Tally::SIZE
+    }
+
+    // Where the count of a reply stands.
+    pub fn place(reply: Reply) -> usize
+        ensures { λ r. ⌜ r ≡ placeOf reply ⌝ }
+    {
+        Tally::place_of(reply.number())
     }
 
     // The tally with one more reply.
@@ -68,4 +74,26 @@ pub fn count(tally: &mut Tally, reply: Reply)
     ensures { λ _. ⌜ now (tally .exit) ≡ tallied (now (tally .entry)) reply ⌝ }
 {
     *tally = (*tally).counted(reply);
+}
+
+// A reply's number, counted in counts that their owner lends, in the order of `Tally::NUMBERS`; whether
+// it has a count there. Counts of another length than a tally's are left as they are, and so are all
+// counts where the number is none that is counted.
+pub fn count_in(counts: &mut [u32], number: u32) -> bool
+    ensures answer { λ r. ⌜ r ≡ hasCount number (now (counts .entry)) ⌝ }
+    ensures counts { λ _. ⌜ now (counts .exit) ≡ countedIn number (now (counts .entry)) ⌝ }
+{
+    if counts.len() != Tally::SIZE {
+        return false;
+    }
+    let i = Tally::place_of(number);
+    if i >= Tally::SIZE {
+        return false;
+    }
+    let was = counts[i];
+    if was < Tally::MOST {
+        counts[i] = was + 1;
+        return true;
+    }
+    true
 }

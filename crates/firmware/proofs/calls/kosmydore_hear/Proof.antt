@@ -1,20 +1,24 @@
--- `kosmydore_hear` meets its contract: it is the node's call, with the reply's number.
+-- `kosmydore_hear` meets its contract: it is the node's call, with the DLC judged and the reply's number.
+use mathlib.Core.Path.{ap, _∙_}
+use denote.Ref.{now}
 use Rattle.firmware.proofs.Answering.{asDeliveredC}
+use Rattle.firmware.proofs.Judging.{heard-so}
 use borrow.Author.Needs.{needs}
 use Rattle.firmware.proofs.calls.kosmydore_hear.Statement.{statement}
 use Rattle.firmware.proofs.calls.kosmydore_hear.Tie as tie
-
-hear-requires : tie.Need-hear-requires
-hear-requires c κs = search needs
-
-number-requires : tie.Need-number-requires
-number-requires c κs = search needs
 
 same-length : tie.Need-same-length
 same-length c = search needs
 
 returns : tie.Need-returns
-returns c = (asDeliveredC (c .before .before .before .before .hear .result) _ _ (c .number .ensures) (c .before .before .before .before .hear .ensures .0 .0), c .before .before .before .before .hear .ensures .0 .1)
+returns c =
+    let called = c .before .before .before .before in
+    let judged = called .before .before in
+    let a = judged .before .before .before .args in
+    let so = heard-so (record { 0 = a .id }) (a .dlc) (now (a .payload)) (now (a .out)) (a .node) in
+    let exact = called .hear .ensures .0 in
+    rw (← so, ← judged .dlc-of .ensures) (asDeliveredC (called .hear .result) _ _ (c .number .ensures) (exact .0), exact .1)
 
 pub kosmydore-hear-spec : {M : Type 1} → statement M
-kosmydore-hear-spec = tie.close (tie.spec hear-requires number-requires same-length returns)
+kosmydore-hear-spec =
+    tie.close (tie.spec (λ c κs. search needs) (λ c κs. search needs) (λ c κs. search needs) same-length returns)

@@ -1,0 +1,98 @@
+-- What is given to the node's calls of a DLC and of settings is answered as the numbers themselves are; and settings that are legal fit.
+use mathlib.Core.Path.{_≡_, refl, sym, ap, _∙_}
+use mathlib.Core.Bool.{Bool, true, false, cond, and-false}
+use mathlib.Core.Logic.{_⊎_, inl, inr}
+use mathlib.Core.List.{List}
+use Prim.Native.Nat.{ℕ, _≤_, _<_}
+use native.Mathlib.Omega.{arith}
+use lib.ListN.{length}
+use lib.Dec.{leb, ltb}
+use borrow.Author.Tests.{ltb-true, ltb-false}
+use Rattle.wire.specs.declared.ids.Stream.{Stream}
+use Rattle.wire.specs.declared.ids.BusId.{BusId}
+use Rattle.wire.specs.declared.settings.Settings.{Settings}
+use Rattle.wire.specs.Identifiers.{maxStream}
+use Rattle.wire.specs.Frames.{maxDlc, badFrame, high-dlc}
+use Rattle.wire.specs.Settings.{legal, PlainNumbers, ImdNumbers, TwoMessageNumbers}
+use Rattle.wire.proofs.Frames.{bad-frame-tells}
+use Rattle.wire.proofs.LegalSettings.{legal-tells}
+use Rattle.node.specs.declared.Node.{Node}
+use Rattle.node.specs.Hear.{hear}
+use Rattle.node.specs.SetUp.{setUp}
+use Rattle.firmware.specs.declared.judged.SettingsC.{SettingsC}
+use Rattle.firmware.specs.Judged.{dlcOf, inNumbers, refusedSettings, settingsOf}
+
+-- ── DLCs ──
+-- above the highest none is a frame's
+no-frame : (id : BusId) (dlc length : ℕ) → maxDlc < dlc → badFrame id dlc length ≡ true
+no-frame id dlc length h = bad-frame-tells id dlc length .back (high-dlc h)
+
+same-frame : (id : BusId) (dlc length : ℕ) → badFrame id (dlcOf dlc) length ≡ badFrame id dlc length
+same-frame id dlc length = go (ltb maxDlc dlc) refl
+  where
+    go : (b : Bool) → ltb maxDlc dlc ≡ b → badFrame id (dlcOf dlc) length ≡ badFrame id dlc length
+    go true e =
+        let high = ltb-true maxDlc dlc e in no-frame id (dlcOf dlc) length (omega arith) ∙ sym (no-frame id dlc length high)
+    go false e =
+        let low = ltb-false maxDlc dlc e in
+        let same : dlcOf dlc ≡ dlc = omega arith in
+        ap (λ (d : ℕ). badFrame id d length) same
+
+pub heard-so : (id : BusId) (dlc : ℕ) (payload output : List ℕ) (n : Node) → hear id (dlcOf dlc) payload output n ≡ hear id dlc payload output n
+unfolding hear
+heard-so id dlc payload output n = rw (same-frame id dlc (length payload))
+
+-- ── settings ──
+pub record FitSettings (s : Settings) : Type 0 where
+  pub role : s .role < 256
+  pub class : s .class < 256
+  pub data-reach : s .rd < 65536
+  pub confirm-delay : s .dc < 65536
+  pub abort-reach : s .ra < 65536
+  pub deliver-delay : s .dd < 65536
+
+module _ (x : Stream) (s : Settings) (e : legal x s ≡ true) where
+  low-role : (s .role ≡ 0) ⊎ (s .role ≡ 1) → s .role < 256
+  low-role (inl h) = omega arith
+  low-role (inr h) = omega arith
+
+  numbers-fit : s .role < 256 → (PlainNumbers s ⊎ ImdNumbers s) ⊎ TwoMessageNumbers s → FitSettings s
+  numbers-fit role (inl (inl h)) = record {
+    role = role;
+    class = omega arith;
+    data-reach = omega arith;
+    confirm-delay = omega arith;
+    abort-reach = omega arith;
+    deliver-delay = omega arith;
+  }
+  numbers-fit role (inl (inr h)) = record {
+    role = role;
+    class = omega arith;
+    data-reach = omega arith;
+    confirm-delay = omega arith;
+    abort-reach = omega arith;
+    deliver-delay = omega arith;
+  }
+  numbers-fit role (inr h) = record {
+    role = role;
+    class = omega arith;
+    data-reach = omega arith;
+    confirm-delay = omega arith;
+    abort-reach = omega arith;
+    deliver-delay = omega arith;
+  }
+
+  pub legal-fits : FitSettings s
+  legal-fits = let l = legal-tells x s .says e in numbers-fit (low-role (l .role)) (l .numbers)
+
+refused-settings : (x : Stream) → legal x refusedSettings ≡ false
+unfolding legal
+refused-settings x = rw (and-false (leb (x .0) maxStream))
+
+pub set-up-so : (x : Stream) (s : SettingsC) (n : Node) → setUp x (settingsOf x s) n ≡ setUp x (inNumbers s) n
+unfolding settingsOf setUp
+set-up-so x s n = go (legal x (inNumbers s)) refl
+  where
+    go : (b : Bool) → legal x (inNumbers s) ≡ b → setUp x (cond b (inNumbers s) refusedSettings) n ≡ setUp x (inNumbers s) n
+    go true e = refl
+    go false e = rw (e, refused-settings x)

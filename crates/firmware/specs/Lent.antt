@@ -1,0 +1,22 @@
+-- The calls on a lent node, as C gets their answers, and what they leave in the lent tally.
+use mathlib.Core.Path.{_≡_}
+use mathlib.Core.List.{List}
+use Prim.Native.Nat.{ℕ}
+use lib.ListN.{length}
+use Rattle.wire.specs.Replies.{numberOf}
+use Rattle.node.specs.Nodes.{Outcome}
+use Rattle.node.specs.Calls.{Call}
+use Rattle.node_bytes.specs.LentCalls.{lentOutcome}
+use Rattle.module.specs.Tallies.{countedIn}
+use Rattle.firmware.specs.declared.lent.WrittenC.{WrittenC}
+use Rattle.firmware.specs.declared.lent.GivenOutC.{GivenOutC}
+
+abbrev pub writtenC : Outcome → WrittenC
+writtenC o = record { reply = numberOf (o .reply); written = length (o .bytes) }
+
+abbrev pub givenOutC : Outcome → GivenOutC
+givenOutC o = record { reply = numberOf (o .reply); id = o .id .0; len = length (o .bytes) }
+
+-- the call's reply is counted, a refusal's too
+abbrev pub Counts : Call → (bytes before after : List ℕ) → Type 0
+Counts c bytes before after = after ≡ countedIn (numberOf (lentOutcome c bytes .reply)) before
