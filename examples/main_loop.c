@@ -1,19 +1,21 @@
 /*
  * The main loop of a store module in C around one node: receives file numbers on stream 5 and sends its own state on
- * stream 6, with the same script of events and the same output as crates/main_loop.
+ * stream 6, with the same script of events and the same output as crates/main_loop. The node and the tally stand in
+ * memory of the module's, and each call changes them there. Nothing here uses printf, which needs more stack than all
+ * the rest.
  */
-#include <inttypes.h>
 #include <stdio.h>
 
 #include "kosmydore.h"
 
 enum { FILES = 5, STATE = 6, TURNS = 60 };
 
-static struct kosmydore_node node;
-static const uint32_t numbers[] = KOSMYDORE_TALLY_NUMBERS;
+static uint8_t node[KOSMYDORE_NODE_BYTES];
 static uint32_t tally[KOSMYDORE_TALLY_SIZE];
 static bool wanted;
 static uint8_t state;
+
+/* ---- the board: what each turn finds, and what it is told ---- */
 
 struct seen {
     bool received, elapsed, wanted;
@@ -39,68 +41,100 @@ static struct seen look(int turn)
     }
 }
 
-static void print(const char *word, const uint8_t *bytes, size_t length)
+static void print_number(uint32_t number)
 {
-    printf("%s", word);
-    for (size_t i = 0; i < length; i++)
-        printf("%02x", bytes[i]);
-    printf("\n");
+    char digits[10];
+    size_t count = 0;
+    do {
+        digits[count++] = (char)('0' + number % 10);
+        number /= 10;
+    } while (number > 0);
+    while (count > 0)
+        putchar(digits[--count]);
+}
+
+static void print_bytes(const uint8_t *bytes, size_t length)
+{
+    for (size_t i = 0; i < length; i++) {
+        putchar("0123456789abcdef"[bytes[i] / 16]);
+        putchar("0123456789abcdef"[bytes[i] % 16]);
+    }
 }
 
 static void deliver(const uint8_t *out, size_t written)
 {
-    for (size_t at = 0; at < written; at += 2 + (size_t)out[at])
-        print("delivered ", out + at, 2 + (size_t)out[at]);
+    for (size_t at = 0; at < written; at += 2 + (size_t)out[at]) {
+        fputs("delivered ", stdout);
+        print_bytes(out + at, 2 + (size_t)out[at]);
+        putchar('\n');
+    }
 }
 
-static uint32_t after(const struct kosmydore_node *then, uint32_t reply)
+static void sent(uint32_t id, const uint8_t *payload, size_t length)
 {
-    node = *then;
-    for (int i = 0; i < KOSMYDORE_TALLY_SIZE; i++)
-        if (numbers[i] == reply)
-            tally[i]++;
-    return reply;
+    fputs("sent ", stdout);
+    print_number(id);
+    if (length > 0)
+        putchar(' ');
+    print_bytes(payload, length);
+    putchar('\n');
 }
 
-int main(void)
+static void counted(void)
 {
-    node = kosmydore_fresh();
+    fputs("tally", stdout);
+    for (int i = 0; i < KOSMYDORE_TALLY_SIZE; i++) {
+        putchar(' ');
+        print_number(tally[i]);
+    }
+    putchar('\n');
+}
+
+/* ---- the module ---- */
+
+/* The fresh node with every stream set up; whether all were taken. */
+static bool start(void)
+{
     const struct kosmydore_settings files = {.role = KOSMYDORE_RECEIVE, .class_ = KOSMYDORE_TWO_MESSAGE,
                                              .data_reach = 6, .confirm_delay = 6, .abort_reach = 7, .deliver_delay = 14};
     const struct kosmydore_settings states = {.role = KOSMYDORE_SEND, .class_ = KOSMYDORE_IMD,
                                               .data_reach = 8, .deliver_delay = 8};
-    struct kosmydore_answered set = kosmydore_set_up(node, FILES, files);
-    after(&set.node, set.reply);
-    set = kosmydore_set_up(node, STATE, states);
-    after(&set.node, set.reply);
-    for (int turn = 0; turn < TURNS; turn++) {
-        const struct seen seen = look(turn);
-        uint8_t out[512];
-        if (seen.received || seen.elapsed) {
-            const size_t bytes = seen.dlc < KOSMYDORE_MAX_PAYLOAD ? seen.dlc : KOSMYDORE_MAX_PAYLOAD;
-            struct kosmydore_delivered heard = seen.received
-                ? kosmydore_hear(node, seen.id, seen.dlc, seen.bytes, bytes, out, sizeof out)
-                : kosmydore_tick(node, out, sizeof out);
-            after(&heard.node, heard.reply);
-            deliver(out, heard.written);
-        }
-        if (seen.wanted) {
-            state = seen.state;
-            wanted = true;
-        }
-        if (wanted) {
-            struct kosmydore_answered asked = kosmydore_request(node, STATE, &state, 1);
-            wanted = after(&asked.node, asked.reply) == KOSMYDORE_BUSY;
-        }
-        struct kosmydore_given given = kosmydore_next_frame(node, out, sizeof out);
-        if (after(&given.node, given.reply) == KOSMYDORE_DONE) {
-            printf("sent %" PRIu32, given.id);
-            print(given.length > 0 ? " " : "", out, given.length);
-        }
+    return kosmydore_module_fresh(node, sizeof node) == KOSMYDORE_DONE
+        && kosmydore_module_set_up(node, sizeof node, FILES, files, tally, KOSMYDORE_TALLY_SIZE) == KOSMYDORE_DONE
+        && kosmydore_module_set_up(node, sizeof node, STATE, states, tally, KOSMYDORE_TALLY_SIZE) == KOSMYDORE_DONE;
+}
+
+/* One turn. The timer waits until all that was received is heard. */
+static void once(struct seen seen)
+{
+    uint8_t out[KOSMYDORE_TICK_OUTPUT];
+    if (seen.received || seen.elapsed) {
+        const size_t bytes = seen.dlc < KOSMYDORE_MAX_PAYLOAD ? seen.dlc : KOSMYDORE_MAX_PAYLOAD;
+        const struct kosmydore_written heard = seen.received
+            ? kosmydore_module_hear(node, sizeof node, seen.id, seen.dlc, seen.bytes, bytes, out, sizeof out,
+                                    tally, KOSMYDORE_TALLY_SIZE)
+            : kosmydore_module_tick(node, sizeof node, out, sizeof out, tally, KOSMYDORE_TALLY_SIZE);
+        deliver(out, heard.written);
     }
-    printf("tally");
-    for (int i = 0; i < KOSMYDORE_TALLY_SIZE; i++)
-        printf(" %" PRIu32, tally[i]);
-    printf("\n");
+    if (seen.wanted) {
+        state = seen.state;
+        wanted = true;
+    }
+    if (wanted)
+        wanted = kosmydore_module_request(node, sizeof node, STATE, &state, 1, tally, KOSMYDORE_TALLY_SIZE)
+            == KOSMYDORE_BUSY;
+    const struct kosmydore_given_out given =
+        kosmydore_module_next_frame(node, sizeof node, out, sizeof out, tally, KOSMYDORE_TALLY_SIZE);
+    if (given.reply == KOSMYDORE_DONE)
+        sent(given.id, out, given.length);
+}
+
+int main(void)
+{
+    if (!start())
+        return 1;
+    for (int turn = 0; turn < TURNS; turn++)
+        once(look(turn));
+    counted();
     return 0;
 }
