@@ -18,14 +18,14 @@ static uint8_t state;
 /* ---- the board: what each turn finds, and what it is told ---- */
 
 struct seen {
-    bool received, elapsed, wanted;
+    bool received, elapsed, ready, wanted;
     uint32_t id;
     uint8_t dlc, bytes[8], state;
 };
 
 static struct seen frame(uint32_t id, uint8_t dlc, uint8_t number)
 {
-    return (struct seen){.received = true, .id = id, .dlc = dlc, .bytes = {0, number}};
+    return (struct seen){.received = true, .ready = true, .id = id, .dlc = dlc, .bytes = {0, number}};
 }
 
 static struct seen look(int turn)
@@ -34,10 +34,10 @@ static struct seen look(int turn)
     case 2: case 4: return frame(20, 2, 7);
     case 5: return frame(21, 0, 0);
     case 8: return frame(39, 1, 3);
-    case 24: return (struct seen){.elapsed = true, .wanted = true, .state = 1};
-    case 26: return (struct seen){.elapsed = true, .wanted = true, .state = 2};
+    case 24: return (struct seen){.elapsed = true, .ready = true, .wanted = true, .state = 1};
+    case 26: return (struct seen){.elapsed = true, .ready = true, .wanted = true, .state = 2};
     case 45: return frame(20, 2, 8);
-    default: return (struct seen){.elapsed = true};
+    default: return (struct seen){.elapsed = true, .ready = true};
     }
 }
 
@@ -123,6 +123,8 @@ static void once(struct seen seen)
     if (wanted)
         wanted = kosmydore_module_request(node, sizeof node, STATE, &state, 1, tally, KOSMYDORE_TALLY_SIZE)
             == KOSMYDORE_BUSY;
+    if (!seen.ready)
+        return;
     const struct kosmydore_given_out given =
         kosmydore_module_next_frame(node, sizeof node, out, sizeof out, tally, KOSMYDORE_TALLY_SIZE);
     if (given.reply == KOSMYDORE_DONE)
