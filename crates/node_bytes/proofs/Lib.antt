@@ -12,5 +12,6 @@ pub mod Lent
 pub mod Calling
 pub mod CallingNext
 pub mod CallingTick
+pub mod LentHistories
 pub mod Unique
 pub mod WorkedNodes
