@@ -101,7 +101,7 @@ run-so : (u : Node) → Kept u → {before end : List ℕ} {calls : List Call} {
     → Run before calls xs end
     → (xs ≡ answersFrom unbounded u calls) × ((length end ≡ nodeSize) × (decode end ≡ roll (afterFrom unbounded u calls)))
 run-so u k whole e start = (refl, (whole, e))
-run-so u k {before} whole e (next c r left after a l rest) =
+run-so u k {before} whole e (next c r left after (a, l) rest) =
     let later = run-so (outcome unbounded c u .node) (kept-by c u k) (l .length-stays ∙ whole) (node-unbounded u k before whole e c l) rest in
     (ap₂ (λ (x : Answer) (xs : List Answer). x ∷ xs) (seen-unbounded u k before whole e c r left a) (later .0), later .1)
 
@@ -136,7 +136,7 @@ module _ (before : List ℕ) (e : isNode before ≡ false) (c : Call) where
 run-refused : {before end : List ℕ} {calls : List Call} {xs : List Answer} → isNode before ≡ false → Run before calls xs end
     → (xs ≡ map (λ (c : Call). noNode) calls) × (end ≡ before)
 run-refused e start = (refl, refl)
-run-refused {before} e (next c r left after a l rest) =
+run-refused {before} e (next c r left after (a, l) rest) =
     let later = run-refused (ap isNode (left-alone before e c l) ∙ e) rest in (
       ap₂ (λ (x : Answer) (xs : List Answer). x ∷ xs) (seen-refused before e c r left a) (later .0),
       later .1 ∙ left-alone before e c l,
@@ -181,7 +181,7 @@ Runs before calls = (xs : List Answer) × ((end : List ℕ) × Run before calls 
 one-more : {before after : List ℕ} (c : Call) {cs : List Call} → Leaves c before after → Runs after cs → Runs before (c ∷ cs)
 one-more {before} {after} c l (xs, (end, rest)) =
     let o = lentOutcome c before in
-    (seen c (returned c o) (leftBy c o) ∷ xs, (end, next c (returned c o) (leftBy c o) after (answers-so c o) l rest))
+    (seen c (returned c o) (leftBy c o) ∷ xs, (end, next c (returned c o) (leftBy c o) after (answers-so c o, l) rest))
 
 -- a call that is done may leave the bytes of the node that it makes, and one that is refused leaves all as it was
 module _ (c : Call) (before : List ℕ) (whole : length before ≡ nodeSize) where

@@ -13,5 +13,6 @@ pub mod Calling
 pub mod CallingNext
 pub mod CallingTick
 pub mod LentHistories
+pub mod LentPromises
 pub mod Unique
 pub mod WorkedNodes

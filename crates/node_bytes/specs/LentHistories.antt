@@ -26,13 +26,17 @@ Returned (tick output) = Written
 Returned (request s payload) = Reply
 Returned (nextFrame output) = GivenOut
 
--- its promise of what it returns, and of what it leaves in the lent output (set up and request are lent none), where this is its outcome
+-- what it returns, and what it leaves in the lent output (set up and request are lent none), of this outcome
 abbrev pub Answers : (c : Call) → Outcome → Returned c → (left : List ℕ) → Type 0
 Answers (setUp s settings) o r left = r ≡ o .reply
 Answers (hear id dlc payload output) o r left = (r ≡ asWritten o) × (left ≡ over (o .bytes) output)
 Answers (tick output) o r left = (r ≡ asWritten o) × (left ≡ over (o .bytes) output)
 Answers (request s payload) o r left = r ≡ o .reply
 Answers (nextFrame output) o r left = (r ≡ asGivenOut o) × (left ≡ over (o .bytes) output)
+
+-- its promise, on these bytes: of what it returns, of the lent output, and of the bytes after it
+abbrev pub Promised : (c : Call) → (before : List ℕ) → Returned c → (left after : List ℕ) → Type 0
+Promised c before r left after = Answers c (lentOutcome c before) r left × Leaves c before after
 
 -- what the caller sees: its reply, its identifier, and the bytes that it says it wrote
 abbrev pub seen : (c : Call) → Returned c → (left : List ℕ) → Answer
@@ -46,8 +50,7 @@ seen (nextFrame output) r left = record { reply = r .reply; id = r .id; bytes = 
 pub data Run : (before : List ℕ) → List Call → List Answer → (end : List ℕ) → Type 0 where
   start : {bytes : List ℕ} → Run bytes [] [] bytes
   next : {before end : List ℕ} {cs : List Call} {xs : List Answer} (c : Call) (r : Returned c) (left after : List ℕ)
-      → Answers c (lentOutcome c before) r left → Leaves c before after
-      → Run after cs xs end → Run before (c ∷ cs) (seen c r left ∷ xs) end
+      → Promised c before r left after → Run after cs xs end → Run before (c ∷ cs) (seen c r left ∷ xs) end
 
 -- ── from the bytes that fresh wrote ──
 -- what was seen is what the definitions say with unbounded counts, and the bytes, a node's still, are their node rolled over
