@@ -16,3 +16,4 @@ pub mod LentHistories
 pub mod LentPromises
 pub mod Unique
 pub mod WorkedNodes
+pub mod WorkedHistory

@@ -8,3 +8,4 @@ pub mod LentHistories
 pub mod Widths
 pub mod Laws
 pub mod WorkedNodes
+pub mod WorkedHistory
