@@ -11,16 +11,17 @@ use Rattle.wire.specs.Settings.{maxDeliverDelay, PlainNumbers, ImdNumbers, TwoM
 use Rattle.wire.specs.Delivered.{AreBytes, numberAt}
 use Rattle.wire.proofs.LegalSettings.{legal-tells}
 use Rattle.node.specs.declared.slots.Slot.{Slot}
+use Rattle.node.specs.declared.Node.{Node}
 use Rattle.node.specs.Nodes.{slotCount}
 use Rattle.node.specs.Clock.{unbounded, rolled}
-use Rattle.node.specs.Calls.{after, rollSlot}
-use Rattle.node.specs.Reachable.{KeptSlot, All}
+use Rattle.node.specs.Calls.{after, rollSlot, roll}
+use Rattle.node.specs.Reachable.{KeptSlot, All, Kept}
 use Rattle.node.proofs.slots.Table.{all-map}
 use Rattle.node.proofs.kept.EveryCall.{kept}
 use Rattle.node.proofs.rollover.SameAnswers.{rolled-node}
 use Rattle.node_bytes.specs.Layout.{slotStart, counterAt}
 use Rattle.node_bytes.specs.Decoding.{slotFrom, slotsAt, decode}
-use Rattle.node_bytes.specs.Widths.{Fits16, Fits32, SettingsFit, SlotFits}
+use Rattle.node_bytes.specs.Widths.{Fits16, Fits32, SettingsFit, SlotFits, NodeFits}
 use Rattle.node_bytes.specs.Laws.{DecodedFits, CallsFit, RoundTripOfCalls}
 use Rattle.node_bytes.proofs.ByIndex.{decoded-length}
 use Rattle.node_bytes.proofs.NodeRoundTrip.{round-trip}
@@ -92,16 +93,16 @@ module _ (now : ℕ) (x : Slot) (k : KeptSlot now x) where
         message = record { stamp = omega arith; len = omega (arith, k .message .short); eight-bytes = k .message .eight-bytes };
       }
 
-pub calls-fit : CallsFit
-calls-fit h =
-    let u = after unbounded h in
-    let k = kept h in
-    rw (rolled-node h)
-    (record {
+pub rolled-fits : (u : Node) → Kept u → NodeFits (roll u)
+rolled-fits u k =
+    record {
       slots-32 = length-map (u .slots) rollSlot ∙ k .slots-32;
       each = all-map (KeptSlot (u .counter)) SlotFits rollSlot (kept-fits (u .counter)) (u .slots) (k .each);
       counter = omega arith;
-    })
+    }
+
+pub calls-fit : CallsFit
+calls-fit h = rw (rolled-node h) (rolled-fits (after unbounded h) (kept h))
 
 pub round-trip-of-calls : RoundTripOfCalls
 round-trip-of-calls h = round-trip (after rolled h) (calls-fit h)

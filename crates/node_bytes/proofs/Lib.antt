@@ -14,5 +14,8 @@ pub mod Lent
 pub mod Calling
 pub mod CallingNext
 pub mod CallingTick
+pub mod LentHistories
+pub mod LentPromises
 pub mod Unique
 pub mod WorkedNodes
+pub mod WorkedHistory
