@@ -4,7 +4,6 @@ use mathlib.Core.List.{List, []}
 use Prim.Native.Nat.{ℕ, _≤_, _<_}
 use native.Mathlib.Omega.{arith}
 use lib.ListN.{length, getD}
-use lib.Seq.{sets}
 use Rattle.wire.specs.declared.ids.Joined.{Joined}
 use Rattle.wire.specs.declared.reply.Reply.{Reply}
 use Rattle.wire.specs.declared.reply.Reply.the-variants.{Done, BadLength}
@@ -15,7 +14,7 @@ use Rattle.node.specs.declared.slots.Slot.{Slot}
 use Rattle.node.specs.declared.Node.{Node}
 use Rattle.node.specs.declared.Answered.{Answered}
 use Rattle.node.specs.declared.Given.{Given}
-use Rattle.node.specs.Slots.{empty}
+use Rattle.node.specs.Slots.{empty, withParts}
 use Rattle.node.specs.Nodes.{slotCount, noId, refused, asGiven}
 use Rattle.node.specs.NextFrame.{nextRoom, lowestCode, hasFrame, givenOut, payloadFor}
 use Rattle.node.specs.Calls.{Call}
@@ -23,13 +22,12 @@ use Rattle.node.proofs.slots.Finding.{indexOf}
 use Rattle.node.proofs.rollover.Promises.{PromisedWritten}
 use Rattle.node.proofs.next_frame.Ways.{frame-given}
 use Rattle.node_bytes.specs.declared.next_frame.GivenOut.{GivenOut}
-use Rattle.node_bytes.specs.Layout.{slotStart, nodeSize}
+use Rattle.node_bytes.specs.Layout.{nodeSize}
 use Rattle.node_bytes.specs.Decoding.{slotAt, decode}
-use Rattle.node_bytes.specs.Encoding.{encodeSlot}
 use Rattle.node_bytes.specs.Lent.{withSlot}
 use Rattle.node_bytes.specs.LentCalls.{lentOutcome, asGivenOut}
 use Rattle.node_bytes.proofs.ByIndex.{decoded-slot, decoded-length}
-use Rattle.node_bytes.proofs.Calling.{AllTold, refusal-told, no-node, as-node, call-refused, slot-put}
+use Rattle.node_bytes.proofs.Calling.{AllTold, refusal-told, no-node, as-node, call-refused, call-done}
 
 -- the parts of an answer that are not the node
 abbrev lent : Given → GivenOut
@@ -71,12 +69,15 @@ module _ (output bytes : List ℕ) where
           → joined ≡ join (s .stream) code → x ≡ givenOut code s
           → length (payloadFor code s) ≤ maxPayload → len ≡ length (fitting (payloadFor code s) output)
           → written ≡ over (fitting (payloadFor code s) output) output
-          → (after ≡ sets bytes (slotStart i) (encodeSlot x)) × (decode after ≡ withSlot i x n)
+          → (length after ≡ length bytes) × (decode after ≡ withSlot i (withParts (slotAt bytes i) (slotAt bytes i .message) (x .pending)) n)
           → Gives (record { reply = Done; id = joined .id; len = len }) written after
+      unfolding givenOut
       next-given x joined len written after id made small long copied put =
           let same : s ≡ getD (n .slots) i empty = there ∙ sym (decoded-slot bytes i empty inside) in
           let w =
           frame-given output n room i at-index (omega (arith, decoded-length bytes)) empty code (rw same at lowest) x joined len written
           (rw same at id) (rw same at made) (rw same at small) (rw same at long) (rw same at copied) in
           let t = told _ _ w in
-          (t .0, (t .1, slot-put call bytes whole i x [] after (ap answered (w .0 .0)) put .1))
+          let stored : withParts (slotAt bytes i) (slotAt bytes i .message) (x .pending) ≡ x = rw (made, there) in
+          let left : decode after ≡ withSlot i x n = rw stored at (put .1) in
+          (t .0, (t .1, call-done call bytes whole (withSlot i x n) [] after (ap answered (w .0 .0)) (put .0) left .1))

@@ -5,14 +5,16 @@ use mathlib.Core.List.{List, []}
 use Prim.Native.Nat.{ℕ, _+_, _≤_, _<_}
 use native.Mathlib.Omega.{arith}
 use borrow.Author.Tests.{lt-ltb}
-use lib.ListN.{length, getD}
-use lib.Seq.{sets}
+use lib.ListN.{length, getD, set}
+use lib.Seq.{set-set, getD-set-same}
 use Rattle.wire.specs.declared.reply.Reply.the-variants.{Done, BadLength, ShortOutput}
 use Rattle.wire.specs.Frames.{maxPayload}
+use Rattle.node.specs.declared.slots.Message.{Message}
+use Rattle.node.specs.declared.slots.Pending.{Pending}
 use Rattle.node.specs.declared.slots.Slot.{Slot}
 use Rattle.node.specs.declared.Node.{Node}
-use Rattle.node.specs.Slots.{empty}
-use Rattle.node.specs.Nodes.{slotCount, done, asAnswered}
+use Rattle.node.specs.Slots.{empty, withParts, withMessage}
+use Rattle.node.specs.Nodes.{slotCount, withSlots, done, asAnswered}
 use Rattle.node.specs.Clock.{rolled}
 use Rattle.node.specs.Tick.{tickRoom, due, lapsed, ageOf, dueSlots, recordsFrom, ticked, tick}
 use Rattle.node.specs.Stirring.{mayStir}
@@ -22,14 +24,36 @@ use Rattle.node.proofs.tick.Cases.{tick-cases}
 use Rattle.node.proofs.tick.Stirring.{Still, still-stays, young-is-still}
 use Rattle.node.proofs.tick.OnePass.{Lapsing, lapsing-at-first, all-lapsed, slot-as-it-was, one-stays, one-lapses}
 use Rattle.node.proofs.tick.OnePass.{Writing, writing-at-first, all-written, one-is-not-due}
-use Rattle.node_bytes.specs.Layout.{slotStart, nodeSize}
+use Rattle.node_bytes.specs.Layout.{nodeSize}
 use Rattle.node_bytes.specs.Decoding.{slotFrom, slotAt, decode}
-use Rattle.node_bytes.specs.Encoding.{encodeSlot}
 use Rattle.node_bytes.specs.Lent.{withSlot, withCounter}
 use Rattle.node_bytes.specs.LentCalls.{asWritten}
 use Rattle.node_bytes.proofs.ByIndex.{decoded-slot, decoded-length}
-use Rattle.node_bytes.proofs.Stored.{stored-length}
 use Rattle.node_bytes.proofs.Calling.{AllTold, all-told, refusal-told, no-node, as-node, call-done}
+
+-- ── a slot of which parts are stored ──
+module _ (bytes after : List ℕ) (i : ℕ) (inside : i < slotCount) (y : Slot)
+    (put : (length after ≡ length bytes) × (decode after ≡ withSlot i (withMessage (y .message) (slotAt bytes i)) (decode bytes))) where
+  pub message-put : (m : Message) → y ≡ withMessage m (slotAt bytes i) → (length after ≡ length bytes) × (decode after ≡ withSlot i y (decode bytes))
+  message-put m made =
+      let same : withMessage (y .message) (slotAt bytes i) ≡ y = rw made in
+      (put .0, rw same at (put .1))
+
+  -- the message, and then the pending frames
+  module _ (last : List ℕ)
+      (then : (length last ≡ length after) × (decode last ≡ withSlot i (withParts (slotAt after i) (slotAt after i .message) (y .pending)) (decode after))) where
+    read-between : slotAt after i ≡ withMessage (y .message) (slotAt bytes i)
+    read-between =
+        sym (decoded-slot after i empty inside)
+        ∙ ap (λ (n : Node). getD (n .slots) i empty) (put .1)
+        ∙ getD-set-same (decode bytes .slots) i _ empty (omega (arith, decoded-length bytes))
+
+    pub parts-put : (m : Message) (p : Pending) → y ≡ withParts (slotAt bytes i) m p
+        → (length last ≡ length bytes) × (decode last ≡ withSlot i y (decode bytes))
+    parts-put m p made =
+        let same : withParts (slotAt bytes i) (y .message) (y .pending) ≡ y = rw made in
+        let left = rw (read-between, put .1) at (then .1) in
+        (then .0 ∙ put .0, left ∙ ap (λ (l : List Slot). withSlots l (decode bytes)) (set-set (decode bytes .slots) i _ _ ∙ ap (set (decode bytes .slots) i) same))
 
 -- ── the loop ──
 -- of the slots of bytes₀, those before i have lapsed in the bytes, and the records of those that are due stand before `at`
@@ -73,13 +97,13 @@ module _ {now : ℕ} {bytes₀ out₀ bytes out : List ℕ} {i at : ℕ} (t : Ti
           }
 
       module _ (y : Slot) (made : y ≡ lapsed age x) (after : List ℕ)
-          (put : (after ≡ sets bytes (slotStart i) (encodeSlot y)) × (decode after ≡ withSlot i y (decode bytes))) where
+          (put : (length after ≡ length bytes) × (decode after ≡ withSlot i y (decode bytes))) where
         -- and whatever is written for it
         pub slot-lapses : {out₁ : List ℕ} {at₁ : ℕ} → Writing rolled now (decode bytes₀ .slots) out₀ out₁ (i + 1) at₁
             → Ticking now bytes₀ out₀ after out₁ (i + 1) at₁
         slot-lapses writing =
             record {
-              whole = stored-length bytes after i y (put .0) ∙ t .whole;
+              whole = put .0 ∙ t .whole;
               lapsing = rw (put .1) (one-lapses (t .lapsing) empty h age (rw as-decoded at a) y (rw as-decoded at made));
               writing = writing;
             }

@@ -116,7 +116,7 @@ module _ (bytes : List ℕ) (i : ℕ) (whole : length bytes ≡ nodeSize) (insid
   payload-is : bytesAt maxPayload messaged (payloadAt + at) ≡ m .bytes
   payload-is =
       ap (λ (k : ℕ). bytesAt k messaged (payloadAt + at)) (sym (fits .eight-bytes))
-      ∙ bytes-stored with-len (m .bytes) (payloadAt + at) (simp (length-set, length-sets) (omega (arith, fits .eight-bytes)))
+      ∙ bytes-stored with-len (m .bytes) (payloadAt + at) (simp length-set (omega (arith, fits .eight-bytes)))
 
   messaged-here : slotAt messaged i ≡ withMessage m (slotAt bytes i)
   unfolding slotFrom

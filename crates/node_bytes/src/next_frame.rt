@@ -1,7 +1,7 @@
 // The next frame to hand to the controller, of a lent node.
 use crate::finding::find_frame;
 use crate::layout;
-use crate::slots::put_slot;
+use crate::slots::put_pending;
 use crate::slots::slot_at;
 use node::Node;
 use node::next_frame::give_payload;
@@ -55,7 +55,7 @@ pub fn next_frame(bytes: &mut [u8], out: &mut [u8]) -> GivenOut
     let id = joined.id;
     let len = give_payload(out, s, code);
     let t = s.given_out(code);
-    put_slot(bytes, i, t);
+    put_pending(bytes, i, t.pending);
     GivenOut {
         reply: Reply::Done,
         id: id,

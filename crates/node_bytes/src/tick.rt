@@ -4,7 +4,8 @@ use crate::counter::counter_of;
 use crate::counter::put_counter;
 use crate::layout;
 use crate::slots::may_stir_at;
-use crate::slots::put_slot;
+use crate::slots::put_message;
+use crate::slots::put_pending;
 use crate::slots::slot_at;
 use node::Node;
 use node::tick::age;
@@ -47,15 +48,19 @@ pub fn tick(bytes: &mut [u8], out: &mut [u8]) -> Written
             let old = slot_at(bytes, i);
             let a = age(now, old.message.stamp);
             if old.due(a) {
-                put_slot(bytes, i, old.delivered());
+                let t = old.delivered();
+                put_message(bytes, i, t.message);
                 let message = old.message;
                 let payload = message.bytes;
                 let n = message.payload_length();
                 at += write_record(&mut out[at..], old.stream, &payload[0..n]);
             } else if old.late(a) {
-                put_slot(bytes, i, old.dropped());
+                let t = old.dropped();
+                put_message(bytes, i, t.message);
+                put_pending(bytes, i, t.pending);
             } else if old.hold_over(a) {
-                put_slot(bytes, i, old.hold_ended());
+                let t = old.hold_ended();
+                put_message(bytes, i, t.message);
             }
         }
     }

@@ -30,8 +30,8 @@ returns-3 c =
     next-refused (now (a .out)) bytes (room .before .if1 .left) Nothing
     (none-pending (now (a .out)) (decode bytes) (room .if2 .left) _ (f .find-frame .ensures) (omega (arith, decoded-length bytes)))
 
-put-slot-requires : tie.Need-put-slot-requires
-put-slot-requires c κs =
+put-pending-requires : tie.Need-put-pending-requires
+put-pending-requires c κs =
     let found = c .before .before .before .before .before .before .before .before .before .before .before .before in
     (found .before .before .before .before .if1 .left, omega arith)
 
@@ -49,7 +49,7 @@ returns-4 c =
     let bytes = now (a .bytes) in
     next-given (now (a .out)) bytes (room .before .if1 .left) (room .if2 .left) _ (f .find-frame .ensures) (omega arith)
     _ (read .slot-at .ensures) _ (code .lowest-code .ensures) _ (j .join .result) _ _ _ (j .join .ensures) (made .given-out .ensures)
-    (gave .give-payload .ensures .1 .1) (gave .give-payload .ensures .0) (gave .give-payload .ensures .1 .0) (put .put-slot .ensures)
+    (gave .give-payload .ensures .1 .1) (gave .give-payload .ensures .0) (gave .give-payload .ensures .1 .0) (put .put-pending .ensures)
 
 pub next-frame-spec : {M : Type 1} → statement M
 next-frame-spec =
@@ -65,7 +65,7 @@ next-frame-spec =
     (λ c κs. search needs)
     (λ c κs. search needs)
     (λ c κs. search needs)
-    put-slot-requires
+    put-pending-requires
     (λ c. search needs)
     (λ c. search needs)
     returns-4)

@@ -3,7 +3,6 @@ use borrow.Author.Needs.{needs}
 use native.Mathlib.Omega.{arith}
 use mathlib.Core.Path.{_≡_, ap, _∙_}
 use lib.ListN.{length, length-set}
-use lib.Seq.{length-sets}
 use denote.Ref.{now}
 use Rattle.node_bytes.specs.Layout.{nodeSize}
 use Rattle.node_bytes.specs.Widths.{MessageFits}
@@ -22,7 +21,7 @@ put-two-requires c κs = simp length-set (omega arith)
 stamped : (c : tie.After-put-two) → length (c .put-two .last .0) ≡ nodeSize
 stamped c =
     let start = c .before .before .before .before in
-    ap length (c .put-two .ensures) ∙ simp (length-set, length-sets) (start .pre .0)
+    ap length (c .put-two .ensures) ∙ simp length-set (start .pre .0)
 
 slice-write-bytes-2 : tie.Need-slice-write-bytes-2
 slice-write-bytes-2 c = omega (arith, stamped (c .before .before .before))

@@ -18,8 +18,7 @@ returns c =
     let start = c .before .before .before .before in
     let a = start .args in
     let bytes = now (a .bytes) in
-    rw (c .before .before .flag .ensures, c .before .flag2 .ensures, c .flag3 .ensures)
-    (
+    rw (c .before .before .flag .ensures, c .before .flag2 .ensures, c .flag3 .ensures) (
       pended-length bytes (a .i) (start .pre .0) (start .pre .1) (a .pending),
       pended-decoded bytes (a .i) (start .pre .0) (start .pre .1) (a .pending),
     )

@@ -11,12 +11,13 @@ use Rattle.wire.specs.Delivered.{littleEndian}
 use Rattle.node.specs.Slots.{empty}
 use Rattle.node.specs.Nodes.{slotCount}
 use Rattle.node.specs.Hear.{hearRoom}
+use Rattle.node.specs.Tick.{dropped, delivered, holdEnded}
 use Rattle.node.specs.Clock.{rolled}
 use Rattle.node.proofs.tick.Stirring.{due-is-delivered, late-is-dropped, over-is-ended}
 use Rattle.node.proofs.tick.OnePass.{writing-keeps-length, has-room, lent-within, written-is-small, one-is-written}
 use Rattle.node_bytes.specs.Layout.{counterAt, nodeSize}
 use Rattle.node_bytes.proofs.ByIndex.{decoded-counter}
-use Rattle.node_bytes.proofs.CallingTick.{Ticking, ticking-at-first, slot-is-young, slot-stays, slot-lapses, slot-lapses-unwritten}
+use Rattle.node_bytes.proofs.CallingTick.{message-put, parts-put, Ticking, ticking-at-first, slot-is-young, slot-stays, slot-lapses, slot-lapses-unwritten}
 use Rattle.node_bytes.proofs.CallingTick.{read-as-it-was, eight-bytes, tick-not-a-node, tick-refused, tick-is-done}
 use Rattle.node_bytes.proofs.tick.tick.Statement.{statement}
 use Rattle.node_bytes.proofs.tick.tick.Tie as tie
@@ -91,23 +92,34 @@ loop-again c =
     let there = aged .before .slot-at .ensures in
     let age = aged .age .ensures in
     let due = sym (tested .before .due .ensures) ∙ tested .if4 .taken in
+    let made = put .before .before .delivered .ensures in
+    let stored = message-put _ _ _ h _ (put .put-message .ensures) _ (made ∙ ap delivered there) in
     let writes =
     one-is-written (t .writing) empty h _ (read-as-it-was t h _ there) _ age _ (eight-bytes t h _ there) _ (counted .payload-length .ensures) due _ _
     (c .before .before .write-record .ensures) in
-    (omega arith, slot-lapses t h _ there _ age _ (put .before .delivered .ensures ∙ due-is-delivered _ _ due) _ (put .put-slot .ensures) writes)
+    (omega arith, slot-lapses t h _ there _ age _ (made ∙ due-is-delivered _ _ due) _ stored writes)
+
+put-pending-requires : tie.Need-put-pending-requires Inv-loop μ-loop
+put-pending-requires c κs =
+    let put = c .before .before .before in
+    let there = inside (put .before .before .before .before .before .before .before .before .before .before .before .before .before) in
+    (put .put-message2 .ensures .0 ∙ there .0, there .1)
 
 loop-again-2 : tie.Need-loop-again-2 Inv-loop μ-loop
 loop-again-2 c =
-    let put = c .before .before in
+    let put = c .before .before .before .before .before .before in
     let asked = put .before .before .before in
     let tested = asked .before .before in
     let aged = tested .before .before in
     let turn = aged .before .before .before .before .before .before in
+    let h = turn .loop-test .taken in
+    let there = aged .before .slot-at .ensures in
     let not-due = sym (tested .before .due .ensures) ∙ tested .if4 .left in
     let late = sym (asked .before .late .ensures) ∙ asked .if5 .taken in
+    let made = put .before .before .dropped .ensures in
+    let stored = parts-put _ _ _ h _ (put .put-message2 .ensures) _ (c .before .before .put-pending .ensures) _ _ (made ∙ ap dropped there) in
     let next =
-    slot-lapses-unwritten (turn .before .loop .inv .1) (turn .loop-test .taken) _ (aged .before .slot-at .ensures) _ (aged .age .ensures)
-    _ (put .before .dropped .ensures ∙ late-is-dropped _ _ late) _ (put .put-slot2 .ensures) not-due in
+    slot-lapses-unwritten (turn .before .loop .inv .1) h _ there _ (aged .age .ensures) _ (made ∙ late-is-dropped _ _ late) _ stored not-due in
     (omega arith, next)
 
 loop-again-3 : tie.Need-loop-again-3 Inv-loop μ-loop
@@ -118,12 +130,15 @@ loop-again-3 c =
     let tested = asked .before .before in
     let aged = tested .before .before in
     let turn = aged .before .before .before .before .before .before in
+    let h = turn .loop-test .taken in
+    let there = aged .before .slot-at .ensures in
     let not-due = sym (tested .before .due .ensures) ∙ tested .if4 .left in
     let not-late = sym (asked .before .late .ensures) ∙ asked .if5 .left in
     let is-over = sym (over .before .hold-over .ensures) ∙ over .if6 .taken in
+    let made = put .before .before .hold-ended .ensures in
+    let stored = message-put _ _ _ h _ (put .put-message3 .ensures) _ (made ∙ ap holdEnded there) in
     let next =
-    slot-lapses-unwritten (turn .before .loop .inv .1) (turn .loop-test .taken) _ (aged .before .slot-at .ensures) _ (aged .age .ensures)
-    _ (put .before .hold-ended .ensures ∙ over-is-ended _ _ not-late not-due is-over) _ (put .put-slot3 .ensures) not-due in
+    slot-lapses-unwritten (turn .before .loop .inv .1) h _ there _ (aged .age .ensures) _ (made ∙ over-is-ended _ _ not-late not-due is-over) _ stored not-due in
     (omega arith, next)
 
 loop-again-4 : tie.Need-loop-again-4 Inv-loop μ-loop
@@ -198,7 +213,8 @@ tick-spec =
     (λ c κs. search needs)
     (λ c κs. search needs)
     (λ c κs. inside (c .before .before .before .before .before .before .before .before .before .before .before .before))
-    (λ c. omega (arith, inside (c .before .before .before .before .before .before .before .before .before .before .before .before .before .before .before)))
+    put-pending-requires
+    (λ c. omega (arith, inside (c .before .before .before .before .before .before .before .before .before .before .before .before .before .before .before .before .before .before .before)))
     loop-again-2
     (λ c κs. search needs)
     (λ c κs. search needs)
