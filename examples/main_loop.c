@@ -9,8 +9,7 @@
 
 enum { FILES = 5, STATE = 6, TURNS = 60 };
 
-static struct kosmydore_node node;
-static const uint32_t numbers[] = KOSMYDORE_TALLY_NUMBERS;
+static uint8_t node[KOSMYDORE_NODE_BYTES];
 static uint32_t tally[KOSMYDORE_TALLY_SIZE];
 static bool wanted;
 static uint8_t state;
@@ -53,47 +52,36 @@ static void deliver(const uint8_t *out, size_t written)
         print("delivered ", out + at, 2 + (size_t)out[at]);
 }
 
-static uint32_t after(const struct kosmydore_node *then, uint32_t reply)
-{
-    node = *then;
-    for (int i = 0; i < KOSMYDORE_TALLY_SIZE; i++)
-        if (numbers[i] == reply)
-            tally[i]++;
-    return reply;
-}
-
 int main(void)
 {
-    node = kosmydore_fresh();
     const struct kosmydore_settings files = {.role = KOSMYDORE_RECEIVE, .class_ = KOSMYDORE_TWO_MESSAGE,
                                              .data_reach = 6, .confirm_delay = 6, .abort_reach = 7, .deliver_delay = 14};
     const struct kosmydore_settings states = {.role = KOSMYDORE_SEND, .class_ = KOSMYDORE_IMD,
                                               .data_reach = 8, .deliver_delay = 8};
-    struct kosmydore_answered set = kosmydore_set_up(node, FILES, files);
-    after(&set.node, set.reply);
-    set = kosmydore_set_up(node, STATE, states);
-    after(&set.node, set.reply);
+    kosmydore_module_fresh(node, sizeof node);
+    kosmydore_module_set_up(node, sizeof node, FILES, files, tally, KOSMYDORE_TALLY_SIZE);
+    kosmydore_module_set_up(node, sizeof node, STATE, states, tally, KOSMYDORE_TALLY_SIZE);
     for (int turn = 0; turn < TURNS; turn++) {
         const struct seen seen = look(turn);
-        uint8_t out[512];
+        uint8_t out[KOSMYDORE_TICK_OUTPUT];
         if (seen.received || seen.elapsed) {
             const size_t bytes = seen.dlc < KOSMYDORE_MAX_PAYLOAD ? seen.dlc : KOSMYDORE_MAX_PAYLOAD;
-            struct kosmydore_delivered heard = seen.received
-                ? kosmydore_hear(node, seen.id, seen.dlc, seen.bytes, bytes, out, sizeof out)
-                : kosmydore_tick(node, out, sizeof out);
-            after(&heard.node, heard.reply);
+            const struct kosmydore_written heard = seen.received
+                ? kosmydore_module_hear(node, sizeof node, seen.id, seen.dlc, seen.bytes, bytes, out, sizeof out,
+                                        tally, KOSMYDORE_TALLY_SIZE)
+                : kosmydore_module_tick(node, sizeof node, out, sizeof out, tally, KOSMYDORE_TALLY_SIZE);
             deliver(out, heard.written);
         }
         if (seen.wanted) {
             state = seen.state;
             wanted = true;
         }
-        if (wanted) {
-            struct kosmydore_answered asked = kosmydore_request(node, STATE, &state, 1);
-            wanted = after(&asked.node, asked.reply) == KOSMYDORE_BUSY;
-        }
-        struct kosmydore_given given = kosmydore_next_frame(node, out, sizeof out);
-        if (after(&given.node, given.reply) == KOSMYDORE_DONE) {
+        if (wanted)
+            wanted = kosmydore_module_request(node, sizeof node, STATE, &state, 1, tally, KOSMYDORE_TALLY_SIZE)
+                == KOSMYDORE_BUSY;
+        const struct kosmydore_given_out given =
+            kosmydore_module_next_frame(node, sizeof node, out, sizeof out, tally, KOSMYDORE_TALLY_SIZE);
+        if (given.reply == KOSMYDORE_DONE) {
             printf("sent %" PRIu32, given.id);
             print(given.length > 0 ? " " : "", out, given.length);
         }

@@ -8,7 +8,11 @@
  * over, to these functions or to the node's calls, is cut to a smaller width first: a role of 256 is
  * refused, and not taken for 0.
  *
- * The node's calls take the whole node and give it back in their answer.
+ * The node's calls come in two forms, with the same answers. kosmydore_module_* are for the firmware
+ * of the modules: the node stands in KOSMYDORE_NODE_BYTES bytes that the firmware owns, is never
+ * copied, and each reply is counted in a tally of the firmware's. The others, kosmydore_set_up and so
+ * on, are for programs with room on their stack: they take the whole node and give it back in their
+ * answer, so that an older node can be kept.
  *
  * The functions are in the static library libkosmydore.a, which `./kosmydore library DIR` puts into a
  * folder, with this header beside it.
@@ -76,9 +80,10 @@ extern "C" {
 #define KOSMYDORE_MAX_DLC UINT32_C(15)
 #define KOSMYDORE_MAX_PAYLOAD UINT32_C(8)
 
-/* The slots of a node, and the bytes that it takes. */
+/* The slots of a node, and the bytes that it takes: as a struct, and as lent bytes. */
 #define KOSMYDORE_SLOTS 32
 #define KOSMYDORE_NODE_SIZE 1028
+#define KOSMYDORE_NODE_BYTES 1026
 
 /* The bytes that the output of each call must have at least. */
 #define KOSMYDORE_HEAR_OUTPUT 16
@@ -139,7 +144,89 @@ uint32_t kosmydore_record_length_reply(uint32_t payload_length);
  */
 uint32_t kosmydore_record_length(uint32_t payload_length);
 
+/* The settings of a stream, as set up takes them; kosmydore_settings_reply says which are legal. */
+struct kosmydore_settings {
+    uint32_t role;
+    uint32_t class_;
+    uint32_t data_reach;
+    uint32_t confirm_delay;
+    uint32_t abort_reach;
+    uint32_t deliver_delay;
+};
+
 /*
+ * ---- For the firmware of the modules: the node in lent bytes ----
+ *
+ * The node stands in KOSMYDORE_NODE_BYTES bytes of the caller's, at any address. Begin with
+ * kosmydore_module_fresh, and change no byte between the calls. (Any bytes are a node, and each call
+ * answers as that node does: none is undefined.) Bytes of another length are answered by
+ * KOSMYDORE_BAD_LENGTH; after any reply but KOSMYDORE_DONE every byte of the node is as it was. Which
+ * bytes stand for a node is not promised: copy and keep them, but do not read or compare them.
+ *
+ * The tally has KOSMYDORE_TALLY_SIZE counts, which begin at 0. Each call but kosmydore_module_fresh
+ * counts its reply there, in the order of KOSMYDORE_TALLY_NUMBERS, and a count stays at 4,294,967,295
+ * once there. A tally of another length is left as it is.
+ *
+ * What is lent to a call is the address of its first element and its length, in bytes or in counts.
+ * An address is not null, also where the length is 0, and no two of those that are lent to one call
+ * overlap.
+ */
+
+/* What hear and tick answer: how many bytes of the output were written. */
+struct kosmydore_written {
+    uint32_t reply;
+    size_t written;
+};
+
+/* What next frame answers: the frame's identifier, and the length of its payload in the output. */
+struct kosmydore_given_out {
+    uint32_t reply;
+    uint32_t id;
+    size_t length;
+};
+
+/* Writes the node before any call: KOSMYDORE_DONE, or KOSMYDORE_BAD_LENGTH. */
+uint32_t kosmydore_module_fresh(uint8_t *node, size_t node_length);
+
+/* Gives a stream a slot, with its settings; any that are not legal are answered by KOSMYDORE_BAD_SETTINGS. */
+uint32_t kosmydore_module_set_up(uint8_t *node, size_t node_length, uint32_t stream,
+                                 struct kosmydore_settings settings, uint32_t *tally, size_t tally_length);
+
+/*
+ * Takes in a frame that the controller received, with the DLC and the payload that kosmydore_hear
+ * takes; the output holds KOSMYDORE_HEAR_OUTPUT bytes or more.
+ */
+struct kosmydore_written kosmydore_module_hear(uint8_t *node, size_t node_length, uint32_t id, uint32_t dlc,
+                                               const uint8_t *payload, size_t payload_length,
+                                               uint8_t *output, size_t output_length,
+                                               uint32_t *tally, size_t tally_length);
+
+/* Moves the counter by one; the output holds KOSMYDORE_TICK_OUTPUT bytes or more. */
+struct kosmydore_written kosmydore_module_tick(uint8_t *node, size_t node_length, uint8_t *output, size_t output_length,
+                                               uint32_t *tally, size_t tally_length);
+
+/* Takes a message to send on one of the node's own streams. */
+uint32_t kosmydore_module_request(uint8_t *node, size_t node_length, uint32_t stream, const uint8_t *payload,
+                                  size_t payload_length, uint32_t *tally, size_t tally_length);
+
+/*
+ * Gives out the pending frame with the lowest identifier; the output holds
+ * KOSMYDORE_NEXT_FRAME_OUTPUT bytes or more.
+ */
+struct kosmydore_given_out kosmydore_module_next_frame(uint8_t *node, size_t node_length,
+                                                       uint8_t *output, size_t output_length,
+                                                       uint32_t *tally, size_t tally_length);
+
+/*
+ * Counts a reply in the tally, for those who make the other calls: whether it has a count there. Where
+ * it has none, since the tally has another length or the number is none of a reply, every count is
+ * left as it is.
+ */
+bool kosmydore_count(uint32_t *tally, size_t tally_length, uint32_t reply);
+
+/*
+ * ---- For programs with room on their stack: the node by value ----
+ *
  * The node. Its fields are no one's business but the calls': begin with kosmydore_fresh, and hand on
  * what the last call answered. (A bool that is neither 0 nor 1 is not a node.) Between the fields
  * there is padding, whose bytes no call promises anything of: do not compare nodes, or take a sum
@@ -179,16 +266,6 @@ struct kosmydore_slot {
 struct kosmydore_node {
     struct kosmydore_slot slots[KOSMYDORE_SLOTS];
     uint16_t counter;
-};
-
-/* The settings of a stream, as set up takes them; kosmydore_settings_reply says which are legal. */
-struct kosmydore_settings {
-    uint32_t role;
-    uint32_t class_;
-    uint32_t data_reach;
-    uint32_t confirm_delay;
-    uint32_t abort_reach;
-    uint32_t deliver_delay;
 };
 
 /* What set up and request answer. */

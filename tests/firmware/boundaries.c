@@ -1,6 +1,7 @@
 /* Calls every function of the C boundary at the edges of what it takes; plain C99, and C++ too. */
 #include <stdint.h>
 #include <stdio.h>
+#include <string.h>
 
 #include "kosmydore.h"
 
@@ -282,6 +283,206 @@ static void dlcs(void)
     SAME(heard(receiver, 20, 7, 7), KOSMYDORE_DONE);
 }
 
+/* A lent node and a lent tally with bytes and counts on either side that no call may touch, and how many of the node are lent. */
+#define EDGE 8
+#define MARK 0xa5
+
+struct lent {
+    uint8_t bytes[EDGE + KOSMYDORE_NODE_BYTES + EDGE];
+    uint32_t counts[EDGE + KOSMYDORE_TALLY_SIZE + EDGE];
+    uint8_t output[EDGE + KOSMYDORE_TICK_OUTPUT + EDGE];
+    size_t length;
+    size_t tally_length;
+};
+
+static struct lent lent;
+static struct lent was;
+
+#define NODE lent.bytes + EDGE, lent.length
+#define OUTPUT(room) lent.output + EDGE, (room)
+#define TALLY lent.counts + EDGE, lent.tally_length
+
+static void lend(void)
+{
+    size_t i;
+
+    memset(&lent, MARK, sizeof lent);
+    lent.length = KOSMYDORE_NODE_BYTES;
+    lent.tally_length = KOSMYDORE_TALLY_SIZE;
+    for (i = 0; i < KOSMYDORE_TALLY_SIZE; i++)
+        lent.counts[EDGE + i] = 0;
+}
+
+/* How many bytes differ from those that stood there before. */
+static uint32_t changed(const void *now, const void *then, size_t length)
+{
+    const uint8_t *a = (const uint8_t *)now;
+    const uint8_t *b = (const uint8_t *)then;
+    uint32_t n = 0;
+    size_t i;
+
+    for (i = 0; i < length; i++)
+        n += a[i] != b[i];
+    return n;
+}
+
+/* A reply, that it was counted once and nothing else was, and that nothing past the edges was written. */
+static void counted(int line, const char *call, uint32_t reply, uint32_t expected, size_t room)
+{
+    const uint32_t numbers[] = KOSMYDORE_TALLY_NUMBERS;
+    const int tally = lent.tally_length == KOSMYDORE_TALLY_SIZE;
+    size_t i;
+
+    same(line, call, reply, expected);
+    for (i = 0; i < KOSMYDORE_TALLY_SIZE; i++)
+        same(line, "a count", lent.counts[EDGE + i] - was.counts[EDGE + i], tally && numbers[i] == reply && was.counts[EDGE + i] != TOP);
+    same(line, "counts before", changed(lent.counts, was.counts, EDGE * sizeof lent.counts[0]), 0);
+    same(line, "counts behind", changed(lent.counts + EDGE + KOSMYDORE_TALLY_SIZE, was.counts + EDGE + KOSMYDORE_TALLY_SIZE,
+                                        EDGE * sizeof lent.counts[0]), 0);
+    same(line, "bytes before", changed(lent.bytes, was.bytes, EDGE), 0);
+    same(line, "bytes behind", changed(lent.bytes + EDGE + KOSMYDORE_NODE_BYTES, was.bytes + EDGE + KOSMYDORE_NODE_BYTES, EDGE), 0);
+    same(line, "output before", changed(lent.output, was.output, EDGE), 0);
+    same(line, "output behind", changed(lent.output + EDGE + room, was.output + EDGE + room, sizeof lent.output - EDGE - room), 0);
+    if (reply != KOSMYDORE_DONE) {
+        same(line, "bytes after a refusal", changed(lent.bytes, was.bytes, sizeof lent.bytes), 0);
+        same(line, "output after a refusal", changed(lent.output, was.output, sizeof lent.output), 0);
+    }
+}
+
+#define COUNTED(call, expected, room) (was = lent, counted(__LINE__, #call, (call), (expected), (room)))
+
+static struct kosmydore_settings two_message_of(uint32_t role)
+{
+    struct kosmydore_settings settings;
+
+    settings.role = role;
+    settings.class_ = KOSMYDORE_TWO_MESSAGE;
+    settings.data_reach = 2;
+    settings.confirm_delay = 3;
+    settings.abort_reach = 2;
+    settings.deliver_delay = 6;
+    return settings;
+}
+
+static void lent_node(void)
+{
+    const uint8_t payload[16] = {1, 2, 3, 4, 5, 6, 7, 8, 9};
+    const size_t other_lengths[] = {0, 1, KOSMYDORE_NODE_BYTES - 1, KOSMYDORE_NODE_BYTES + 1, KOSMYDORE_NODE_SIZE};
+    struct kosmydore_settings settings = two_message_of(KOSMYDORE_RECEIVE);
+    struct kosmydore_given_out given;
+    struct kosmydore_written heard;
+    uint32_t stream;
+    size_t i;
+
+    lend();
+    SAME(kosmydore_module_fresh(NODE), KOSMYDORE_DONE);
+    for (i = 0; i < sizeof other_lengths / sizeof other_lengths[0]; i++) {
+        lent.length = other_lengths[i];
+        was = lent;
+        SAME(kosmydore_module_fresh(NODE), KOSMYDORE_BAD_LENGTH);
+        SAME(changed(&lent, &was, sizeof lent), 0);
+        COUNTED(kosmydore_module_set_up(NODE, 5, settings, TALLY), KOSMYDORE_BAD_LENGTH, 0);
+        COUNTED(kosmydore_module_hear(NODE, 20, 0, payload, 0, OUTPUT(KOSMYDORE_HEAR_OUTPUT), TALLY).reply, KOSMYDORE_BAD_LENGTH, 0);
+        COUNTED(kosmydore_module_tick(NODE, OUTPUT(KOSMYDORE_TICK_OUTPUT), TALLY).reply, KOSMYDORE_BAD_LENGTH, 0);
+        COUNTED(kosmydore_module_request(NODE, 5, payload, 0, TALLY), KOSMYDORE_BAD_LENGTH, 0);
+        COUNTED(kosmydore_module_next_frame(NODE, OUTPUT(KOSMYDORE_NEXT_FRAME_OUTPUT), TALLY).reply, KOSMYDORE_BAD_LENGTH, 0);
+    }
+    lent.length = KOSMYDORE_NODE_BYTES;
+
+    /* numbers that are judged, and not cut */
+    settings.role = 256;
+    COUNTED(kosmydore_module_set_up(NODE, 5, settings, TALLY), KOSMYDORE_BAD_SETTINGS, 0);
+    settings = two_message_of(KOSMYDORE_RECEIVE);
+    settings.data_reach = 65538;
+    COUNTED(kosmydore_module_set_up(NODE, 5, settings, TALLY), KOSMYDORE_BAD_SETTINGS, 0);
+    settings = two_message_of(KOSMYDORE_RECEIVE);
+    COUNTED(kosmydore_module_set_up(NODE, KOSMYDORE_MAX_STREAM + 1, settings, TALLY), KOSMYDORE_BAD_SETTINGS, 0);
+    COUNTED(kosmydore_module_set_up(NODE, 5, settings, TALLY), KOSMYDORE_DONE, 0);
+    COUNTED(kosmydore_module_set_up(NODE, 5, settings, TALLY), KOSMYDORE_TAKEN, 0);
+    COUNTED(kosmydore_module_hear(NODE, 20, 271, payload, 8, OUTPUT(KOSMYDORE_HEAR_OUTPUT), TALLY).reply, KOSMYDORE_BAD_FRAME, 0);
+    COUNTED(kosmydore_module_hear(NODE, 20, 264, payload, 8, OUTPUT(KOSMYDORE_HEAR_OUTPUT), TALLY).reply, KOSMYDORE_BAD_FRAME, 0);
+    COUNTED(kosmydore_module_hear(NODE, 20, TOP, payload, 8, OUTPUT(KOSMYDORE_HEAR_OUTPUT), TALLY).reply, KOSMYDORE_BAD_FRAME, 0);
+
+    /* rooms, and a message from its data to its record */
+    COUNTED(kosmydore_module_hear(NODE, 20, 8, payload, 8, OUTPUT(KOSMYDORE_HEAR_OUTPUT - 1), TALLY).reply, KOSMYDORE_SHORT_OUTPUT, 0);
+    COUNTED(kosmydore_module_hear(NODE, 20, 15, payload, 8, OUTPUT(KOSMYDORE_HEAR_OUTPUT), TALLY).reply, KOSMYDORE_DONE, 0);
+    COUNTED(kosmydore_module_hear(NODE, 20, 7, payload, 7, OUTPUT(KOSMYDORE_HEAR_OUTPUT), TALLY).reply, KOSMYDORE_CLASH, 0);
+    COUNTED(kosmydore_module_hear(NODE, 21, 0, payload, 0, OUTPUT(KOSMYDORE_HEAR_OUTPUT), TALLY).reply, KOSMYDORE_DONE, 0);
+    COUNTED(kosmydore_module_tick(NODE, OUTPUT(KOSMYDORE_TICK_OUTPUT - 1), TALLY).reply, KOSMYDORE_SHORT_OUTPUT, 0);
+    for (i = 0; i < 6; i++)
+        COUNTED(kosmydore_module_tick(NODE, OUTPUT(KOSMYDORE_TICK_OUTPUT), TALLY).reply, KOSMYDORE_DONE, 0);
+    was = lent;
+    heard = kosmydore_module_tick(NODE, OUTPUT(KOSMYDORE_TICK_OUTPUT), TALLY);
+    counted(__LINE__, "tick", heard.reply, KOSMYDORE_DONE, 16);
+    SAME(heard.written, 16);
+    SAME(lent.output[EDGE], 14);
+    SAME(changed(lent.output + EDGE + 8, payload, 8), 0);
+
+    /* requests and frames */
+    settings.role = KOSMYDORE_SEND;
+    COUNTED(kosmydore_module_set_up(NODE, 6, settings, TALLY), KOSMYDORE_DONE, 0);
+    COUNTED(kosmydore_module_next_frame(NODE, OUTPUT(KOSMYDORE_NEXT_FRAME_OUTPUT), TALLY).reply, KOSMYDORE_NOTHING, 0);
+    COUNTED(kosmydore_module_request(NODE, 5, payload, 8, TALLY), KOSMYDORE_NOT_SENDER, 0);
+    COUNTED(kosmydore_module_request(NODE, 6, payload, 9, TALLY), KOSMYDORE_BAD_LENGTH, 0);
+    COUNTED(kosmydore_module_request(NODE, 6, payload, 8, TALLY), KOSMYDORE_DONE, 0);
+    COUNTED(kosmydore_module_request(NODE, 6, payload, 8, TALLY), KOSMYDORE_BUSY, 0);
+    COUNTED(kosmydore_module_next_frame(NODE, OUTPUT(KOSMYDORE_NEXT_FRAME_OUTPUT - 1), TALLY).reply, KOSMYDORE_SHORT_OUTPUT, 0);
+    was = lent;
+    given = kosmydore_module_next_frame(NODE, OUTPUT(KOSMYDORE_NEXT_FRAME_OUTPUT), TALLY);
+    counted(__LINE__, "next_frame", given.reply, KOSMYDORE_DONE, 8);
+    SAME(given.id, 24);
+    SAME(given.length, 8);
+    SAME(changed(lent.output + EDGE, payload, 8), 0);
+    was = lent;
+    given = kosmydore_module_next_frame(NODE, OUTPUT(KOSMYDORE_NEXT_FRAME_OUTPUT), TALLY);
+    counted(__LINE__, "next_frame", given.reply, KOSMYDORE_DONE, 0);
+    SAME(given.id, 25);
+    SAME(given.length, 0);
+
+    /* a full table, a tally of another length, and counts at the most */
+    for (stream = 7; stream < 7 + KOSMYDORE_SLOTS - 2; stream++)
+        COUNTED(kosmydore_module_set_up(NODE, stream, settings, TALLY), KOSMYDORE_DONE, 0);
+    COUNTED(kosmydore_module_set_up(NODE, stream, settings, TALLY), KOSMYDORE_TABLE_FULL, 0);
+    lent.tally_length = KOSMYDORE_TALLY_SIZE - 1;
+    COUNTED(kosmydore_module_set_up(NODE, stream, settings, TALLY), KOSMYDORE_TABLE_FULL, 0);
+    lent.tally_length = KOSMYDORE_TALLY_SIZE + 1;
+    COUNTED(kosmydore_module_tick(NODE, OUTPUT(KOSMYDORE_TICK_OUTPUT), TALLY).reply, KOSMYDORE_DONE, 0);
+    lent.tally_length = 0;
+    COUNTED(kosmydore_module_next_frame(NODE, OUTPUT(KOSMYDORE_NEXT_FRAME_OUTPUT), TALLY).reply, KOSMYDORE_NOTHING, 0);
+    lent.tally_length = KOSMYDORE_TALLY_SIZE;
+    for (i = 0; i < KOSMYDORE_TALLY_SIZE; i++)
+        lent.counts[EDGE + i] = TOP - 1;
+    for (i = 0; i < 3; i++)
+        COUNTED(kosmydore_module_tick(NODE, OUTPUT(KOSMYDORE_TICK_OUTPUT), TALLY).reply, KOSMYDORE_DONE, 0);
+    SAME(lent.counts[EDGE], TOP);
+}
+
+/* kosmydore_count, at every number and at other lengths. */
+static void count(void)
+{
+    const uint32_t numbers[] = KOSMYDORE_TALLY_NUMBERS;
+    size_t i;
+
+    lend();
+    for (i = 0; i < KOSMYDORE_TALLY_SIZE; i++) {
+        was = lent;
+        SAME(kosmydore_count(TALLY, numbers[i]), true);
+        counted(__LINE__, "count", numbers[i], numbers[i], 0);
+    }
+    was = lent;
+    SAME(kosmydore_count(TALLY, KOSMYDORE_TALLY_SIZE), false);
+    SAME(kosmydore_count(TALLY, 256), false);
+    SAME(kosmydore_count(TALLY, TOP), false);
+    SAME(kosmydore_count(lent.counts + EDGE, KOSMYDORE_TALLY_SIZE - 1, 0), false);
+    SAME(kosmydore_count(lent.counts + EDGE, KOSMYDORE_TALLY_SIZE + 1, 0), false);
+    SAME(kosmydore_count(lent.counts + EDGE, 0, 0), false);
+    SAME(changed(&lent, &was, sizeof lent), 0);
+    lent.counts[EDGE] = TOP;
+    was = lent;
+    SAME(kosmydore_count(TALLY, KOSMYDORE_DONE), true);
+    SAME(changed(&lent, &was, sizeof lent), 0);
+}
+
 int main(void)
 {
     identifiers();
@@ -293,6 +494,8 @@ int main(void)
     node();
     set_up_numbers();
     dlcs();
+    lent_node();
+    count();
     printf("%d passed, %d failed\n", passed, failed);
     return failed == 0 ? 0 : 1;
 }

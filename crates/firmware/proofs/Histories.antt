@@ -27,7 +27,7 @@ node-so (request s payload) n r left p = rw p
 node-so (nextFrame output) n r left p = rw (p .0)
 
 -- rolling over hides nothing of it
-seen-rolls : (c : Call) (o : Outcome) → seenOf c (rollOutcome o) ≡ seenOf c o
+pub seen-rolls : (c : Call) (o : Outcome) → seenOf c (rollOutcome o) ≡ seenOf c o
 seen-rolls (setUp s settings) o = refl
 seen-rolls (hear id dlc payload output) o = refl
 seen-rolls (tick output) o = refl

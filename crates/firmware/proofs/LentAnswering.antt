@@ -1,5 +1,5 @@
--- A call on a lent node, with the number of its reply counted: its answer as C gets it, what it leaves in the tally, and that judged numbers are
--- answered as the numbers themselves are.
+-- A call on a lent node, with the number of its reply counted: its answer as C gets it, what it leaves in the tally, and that of judged numbers all
+-- of it is the same as of the numbers themselves.
 use mathlib.Core.Path.{_≡_, sym, ap, _∙_}
 use mathlib.Core.Bool.{cond}
 use mathlib.Core.List.{List}
@@ -12,12 +12,22 @@ use Rattle.wire.specs.Replies.{numberOf}
 use Rattle.node.specs.Nodes.{Outcome, refused}
 use Rattle.node.specs.Clock.{rolled}
 use Rattle.node.specs.Calls.{Call, outcome}
+use Rattle.node_bytes.specs.declared.Written.{Written}
 use Rattle.node_bytes.specs.declared.next_frame.GivenOut.{GivenOut}
 use Rattle.node_bytes.specs.Decoding.{decode}
 use Rattle.node_bytes.specs.Lent.{isNode}
-use Rattle.node_bytes.specs.LentCalls.{lentOutcome, asGivenOut, Leaves}
+use Rattle.node_bytes.specs.LentCalls.{lentOutcome, asWritten, asGivenOut, Leaves}
 use Rattle.module.specs.Tallies.{countedIn}
-use Rattle.firmware.specs.Lent.{givenOutC, Counts}
+use Rattle.firmware.specs.declared.judged.SettingsC.{SettingsC}
+use Rattle.firmware.specs.Judged.{dlcOf, inNumbers, settingsOf}
+use Rattle.firmware.specs.Lent.{writtenC, givenOutC, Counts}
+use Rattle.firmware.proofs.Judging.{heard-so, set-up-so}
+
+-- ── the answers ──
+pub asWrittenC : (a : Written) (o : Outcome) (n : ℕ) → n ≡ numberOf (a .reply) → a ≡ asWritten o → record { reply = n; written = a .written } ≡ writtenC o
+asWrittenC a o n p q =
+    ap (λ (k : ℕ). record { reply = k; written = a .written }) p
+    ∙ ap (λ (w : Written). record { reply = numberOf (w .reply); written = w .written }) q
 
 pub asGivenOutC : (a : GivenOut) (o : Outcome) (n : ℕ) → n ≡ numberOf (a .reply) → a ≡ asGivenOut o
     → record { reply = n; id = a .id .0; len = a .len } ≡ givenOutC o
@@ -25,10 +35,31 @@ asGivenOutC a o n p q =
     ap (λ (k : ℕ). record { reply = k; id = a .id .0; len = a .len }) p
     ∙ ap (λ (g : GivenOut). record { reply = numberOf (g .reply); id = g .id .0; len = g .len }) q
 
--- the reply's number, and what it leaves in the tally
+-- ── the reply's number, and what it leaves in the tally ──
 module _ (c : Call) (bytes : List ℕ) (n : ℕ) (r : Reply) (p : n ≡ numberOf r) (q : r ≡ lentOutcome c bytes .reply) where
   pub numbered : n ≡ numberOf (lentOutcome c bytes .reply)
   numbered = p ∙ ap numberOf q
 
   pub counts-so : (before after : List ℕ) → after ≡ countedIn n before → Counts c bytes before after
   counts-so before after e = e ∙ ap (λ (k : ℕ). countedIn k before) numbered
+
+-- ── judged numbers ──
+abbrev lentAs : (bytes : List ℕ) → Outcome → Outcome
+lentAs bytes o = cond (isNode bytes) o (refused (decode bytes) BadLength)
+
+pub lent-heard-so : (id : BusId) (dlc : ℕ) (payload output bytes : List ℕ)
+    → lentOutcome (Call.hear id (dlcOf dlc) payload output) bytes ≡ lentOutcome (Call.hear id dlc payload output) bytes
+lent-heard-so id dlc payload output bytes = ap (lentAs bytes) (heard-so id dlc payload output (decode bytes))
+
+pub lent-set-up-so : (x : Stream) (s : SettingsC) (bytes : List ℕ)
+    → lentOutcome (Call.setUp x (settingsOf x s)) bytes ≡ lentOutcome (Call.setUp x (inNumbers s)) bytes
+lent-set-up-so x s bytes = ap (lentAs bytes) (set-up-so x s (decode bytes))
+
+-- what a call leaves goes by its outcome alone
+pub leaves-so : (c d : Call) {before after : List ℕ} → lentOutcome c before ≡ lentOutcome d before → Leaves c before after → Leaves d before after
+leaves-so c d e l =
+    record {
+      length-stays = l .length-stays;
+      node = l .node ∙ ap (λ (o : Outcome). o .node) e;
+      refused-unchanged = λ other. l .refused-unchanged (λ done. other (ap (λ (o : Outcome). o .reply) (sym e) ∙ done));
+    }

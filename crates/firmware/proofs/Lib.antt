@@ -4,4 +4,6 @@ pub mod Judging
 pub mod LentAnswering
 pub mod Refusals
 pub mod Unique
+pub mod LentUnique
 pub mod Histories
+pub mod LentHistories

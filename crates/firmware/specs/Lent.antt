@@ -8,7 +8,11 @@ use Rattle.node.specs.Nodes.{Outcome}
 use Rattle.node.specs.Calls.{Call}
 use Rattle.node_bytes.specs.LentCalls.{lentOutcome}
 use Rattle.module.specs.Tallies.{countedIn}
+use Rattle.firmware.specs.declared.lent.WrittenC.{WrittenC}
 use Rattle.firmware.specs.declared.lent.GivenOutC.{GivenOutC}
+
+abbrev pub writtenC : Outcome → WrittenC
+writtenC o = record { reply = numberOf (o .reply); written = length (o .bytes) }
 
 abbrev pub givenOutC : Outcome → GivenOutC
 givenOutC o = record { reply = numberOf (o .reply); id = o .id .0; len = length (o .bytes) }

@@ -4,3 +4,4 @@ pub mod Answers
 pub mod Judged
 pub mod Lent
 pub mod Histories
+pub mod LentHistories
