@@ -3,46 +3,11 @@
  * After each call the replies, the values and the outputs are equal, the lent bytes are the node by value (as decoded here, by the table of
  * crates/node_bytes/src/layout.rt), the tally has the counts that are kept apart, and no byte beside what was lent is another; after a refusal
  * every byte of the node is as it was. The first difference is printed. Each reply has to occur, of each call that can give it. */
-#include <stdbool.h>
-#include <stddef.h>
-#include <stdint.h>
 #include <stdio.h>
 #include <stdlib.h>
 #include <string.h>
 
-#include "kosmydore.h"
-
-/* ---- where each part of a node stands ---- */
-enum {
-    STREAM = 0,
-    USED = 4,
-    HELD = 5,
-    STAMP = 6,
-    PAYLOAD_PENDING = 8,
-    CONFIRMATION_PENDING = 9,
-    ABORT_PENDING = 10,
-    CONFIRMED = 11,
-    LENGTH = 12,
-    ROLE = 13,
-    CLASS = 14,
-    DATA_REACH = 16,
-    CONFIRM_DELAY = 18,
-    ABORT_REACH = 20,
-    DELIVER_DELAY = 22,
-    PAYLOAD = 24,
-    SLOT_SIZE = 32,
-    COUNTER = SLOT_SIZE * KOSMYDORE_SLOTS
-};
-
-static uint16_t two_at(const uint8_t *bytes)
-{
-    return (uint16_t)(bytes[0] + 256 * bytes[1]);
-}
-
-static uint32_t four_at(const uint8_t *bytes)
-{
-    return two_at(bytes) + UINT32_C(65536) * two_at(bytes + 2);
-}
+#include "asked.h"
 
 static struct kosmydore_slot slot_of(const uint8_t *bytes)
 {
@@ -89,32 +54,6 @@ static bool same_slot(const struct kosmydore_slot *a, const struct kosmydore_slo
            a->message.confirmed == b->message.confirmed &&
            memcmp(a->message.bytes, b->message.bytes, sizeof a->message.bytes) == 0 && a->pending.payload == b->pending.payload &&
            a->pending.confirmation == b->pending.confirmation && a->pending.abort == b->pending.abort;
-}
-
-/* ---- random numbers ---- */
-static uint64_t state;
-
-static uint32_t draw(void)
-{
-    state ^= state << 13;
-    state ^= state >> 7;
-    state ^= state << 17;
-    return (uint32_t)(state >> 16);
-}
-
-static uint32_t below(uint32_t n)
-{
-    return draw() % n;
-}
-
-static bool one_in(uint32_t n)
-{
-    return below(n) == 0;
-}
-
-static uint32_t between(uint32_t low, uint32_t high)
-{
-    return low + below(high - low + 1);
 }
 
 /* ---- what is lent, with an edge on either side; a second of each for the form by value ---- */
@@ -262,83 +201,6 @@ static void after(uint32_t reply, uint32_t expected, size_t written)
 #define NODE lent_node, lent_length
 #define TALLY tally + EDGE, tally_length
 
-/* ---- what is asked ---- */
-/* The streams that are asked of, and how many of them are, in this while. */
-enum { POOL = 48 };
-static uint32_t pool[POOL];
-static uint32_t asked_of;
-
-static uint32_t any_stream(void)
-{
-    static const uint32_t edges[] = {0, 1, KOSMYDORE_MAX_STREAM, KOSMYDORE_MAX_STREAM + 1, UINT32_MAX, 16777216, 65536, 256};
-
-    if (one_in(16))
-        return one_in(2) ? edges[below(sizeof edges / sizeof edges[0])] : draw();
-    return pool[below(asked_of)];
-}
-
-static uint32_t any_number(void)
-{
-    static const uint32_t edges[] = {0, 1, 2, 3999, 4000, 4001, 7999, 8000, 8001, 15999, 16000, 16001, 65535, 65536, 65537, 65538, UINT32_MAX};
-
-    return one_in(4) ? draw() : edges[below(sizeof edges / sizeof edges[0])];
-}
-
-static struct kosmydore_settings any_settings(void)
-{
-    struct kosmydore_settings s = {below(2), below(3), 0, 0, 0, 0};
-    bool longest = one_in(8);
-    uint32_t *parts[6];
-
-    if (s.class_ != KOSMYDORE_PLAIN)
-        s.data_reach = longest ? between(7998, 8000) : between(1, 3);
-    if (s.class_ == KOSMYDORE_IMD)
-        s.deliver_delay = longest ? between(s.data_reach, 16000) : s.data_reach + below(4);
-    if (s.class_ == KOSMYDORE_TWO_MESSAGE) {
-        s.confirm_delay = longest ? between(s.data_reach, 8000) : s.data_reach + below(3);
-        s.abort_reach = longest ? between(3998, 4000) : between(1, 2);
-        s.deliver_delay = s.confirm_delay + s.abort_reach + 1;
-        s.deliver_delay = longest ? between(s.deliver_delay, 16000) : s.deliver_delay + below(4);
-    }
-    parts[0] = &s.role;
-    parts[1] = &s.class_;
-    parts[2] = &s.data_reach;
-    parts[3] = &s.confirm_delay;
-    parts[4] = &s.abort_reach;
-    parts[5] = &s.deliver_delay;
-    switch (below(16)) {
-    case 0:
-        *parts[below(6)] = any_number();
-        break;
-    case 1:
-        *parts[below(6)] += between(0, 2) - 1;
-        break;
-    case 2:
-        *parts[below(2)] += 256 * between(1, 3);
-        break;
-    case 3:
-        *parts[below(6)] += 65536 * between(1, 3);
-        break;
-    }
-    return s;
-}
-
-/* The payload of a stream: its own bytes, now and then another byte. */
-static void fill_payload(uint8_t *payload, size_t room, uint32_t stream)
-{
-    for (size_t i = 0; i < room; i++)
-        payload[i] = (uint8_t)(stream + 7 * i);
-    if (one_in(4))
-        payload[below(8)] ^= (uint8_t)between(1, 255);
-}
-
-static size_t any_room(size_t needed)
-{
-    if (one_in(16))
-        return one_in(2) ? needed - 1 : below((uint32_t)needed);
-    return one_in(2) ? needed : between((uint32_t)needed, KOSMYDORE_TICK_OUTPUT);
-}
-
 /* ---- the calls ---- */
 static void set_up(void)
 {
@@ -359,41 +221,18 @@ static void set_up(void)
 
 static void hear(void)
 {
-    uint32_t stream = any_stream();
-    uint32_t code = below(8) % 4 == 1 ? KOSMYDORE_CODE_DATA : below(4);
-    uint32_t id = one_in(64) ? draw() : stream * 4 + code;
-    bool empty = code == KOSMYDORE_CODE_CONFIRMATION || code == KOSMYDORE_CODE_ABORT;
-    uint32_t dlc = empty ? 0 : stream % 16;
-    uint8_t payload[24];
-    size_t length;
+    struct asked f = any_frame();
     size_t room = any_room(KOSMYDORE_HEAR_OUTPUT);
-    struct kosmydore_delivered a;
-    struct kosmydore_written w;
+    struct kosmydore_delivered a = kosmydore_hear(node, f.number, f.dlc, f.payload, f.length, output_by_value + EDGE, room);
+    struct kosmydore_written w = kosmydore_module_hear(NODE, f.number, f.dlc, f.payload, f.length, output + EDGE, room, TALLY);
 
-    if (one_in(16))
-        dlc = below(16);
-    length = dlc < 8 ? dlc : 8;
-    switch (below(32)) {
-    case 0:
-        dlc += 256 * between(1, 3);
-        break;
-    case 1:
-        dlc = one_in(2) ? between(16, 300) : draw();
-        break;
-    case 2:
-        length = below(sizeof payload + 1);
-        break;
-    }
-    fill_payload(payload, sizeof payload, stream);
-    a = kosmydore_hear(node, id, dlc, payload, length, output_by_value + EDGE, room);
-    w = kosmydore_module_hear(NODE, id, dlc, payload, length, output + EDGE, room, TALLY);
     if (is_node())
         node = a.node;
     else
         a.written = 0, memcpy(output_by_value, output_before, sizeof output);
     check("how much is written", w.written == a.written);
-    check("the judgement of the DLC", dlc <= KOSMYDORE_MAX_DLC || w.reply != KOSMYDORE_DONE);
-    events[HIGH_DLC] += dlc > 255 && w.reply == KOSMYDORE_BAD_FRAME;
+    check("the judgement of the DLC", f.dlc <= KOSMYDORE_MAX_DLC || w.reply != KOSMYDORE_DONE);
+    events[HIGH_DLC] += f.dlc > 255 && w.reply == KOSMYDORE_BAD_FRAME;
     events[PLAIN_DELIVERED] += w.written != 0;
     after(w.reply, a.reply, w.written);
 }
@@ -418,15 +257,10 @@ static void tick(void)
 
 static void request(void)
 {
-    uint32_t stream = any_stream();
-    uint8_t payload[24];
-    size_t length = one_in(16) ? below(sizeof payload + 1) : below(9);
-    struct kosmydore_answered a;
-    uint32_t reply;
+    struct asked m = any_message();
+    struct kosmydore_answered a = kosmydore_request(node, m.number, m.payload, m.length);
+    uint32_t reply = kosmydore_module_request(NODE, m.number, m.payload, m.length, TALLY);
 
-    fill_payload(payload, sizeof payload, stream);
-    a = kosmydore_request(node, stream, payload, length);
-    reply = kosmydore_module_request(NODE, stream, payload, length, TALLY);
     if (is_node())
         node = a.node;
     after(reply, a.reply, 0);
@@ -471,28 +305,6 @@ static void count(void)
 
 /* ---- where calls begin ---- */
 
-/* A slot of any bytes, with settings and a stamp that let something happen. */
-static void wild_slot(uint8_t *bytes, size_t i, uint16_t counter)
-{
-    uint32_t stream = pool[below(asked_of)];
-    uint16_t stamp = (uint16_t)(counter - below(8));
-
-    for (size_t k = 0; k < 4; k++)
-        bytes[STREAM + k] = (uint8_t)(stream >> 8 * k);
-    bytes[STAMP] = (uint8_t)stamp;
-    bytes[STAMP + 1] = (uint8_t)(stamp >> 8);
-    bytes[LENGTH] = (uint8_t)below(12);
-    bytes[ROLE] = (uint8_t)below(3);
-    bytes[CLASS] = (uint8_t)below(4);
-    for (size_t k = DATA_REACH; k < PAYLOAD; k += 2) {
-        bytes[k] = (uint8_t)below(10);
-        bytes[k + 1] = 0;
-    }
-    for (size_t k = USED; k < LENGTH; k++)
-        if ((k < STAMP || k >= PAYLOAD_PENDING) && one_in(2))
-            bytes[k] = (uint8_t)(i % 2);
-}
-
 static void wild_bytes(void)
 {
     bool tame = one_in(2);
@@ -532,9 +344,7 @@ static void begin(void)
         tally[EDGE + i] = one_in(8) ? UINT32_MAX - below(4) : one_in(2) ? 0 : draw();
     memcpy(counts, tally, sizeof counts);
     lent_node = lent + EDGE + below(8);
-    for (size_t i = 0; i < POOL; i++)
-        pool[i] = one_in(4) ? below(KOSMYDORE_MAX_STREAM + 1) : between(1, 200);
-    asked_of = one_in(2) ? POOL : between(1, 8);
+    draw_streams();
     wild = false;
     if (one_in(4)) {
         wild_bytes();
