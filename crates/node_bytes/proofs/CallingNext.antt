@@ -4,7 +4,7 @@ use mathlib.Core.List.{List, []}
 use Prim.Native.Nat.{ℕ, _≤_, _<_}
 use native.Mathlib.Omega.{arith}
 use lib.ListN.{length, getD}
-use Rattle.wire.specs.declared.ids.BusId.{BusId}
+use lib.Seq.{sets}
 use Rattle.wire.specs.declared.ids.Joined.{Joined}
 use Rattle.wire.specs.declared.reply.Reply.{Reply}
 use Rattle.wire.specs.declared.reply.Reply.the-variants.{Done, BadLength}
@@ -23,12 +23,13 @@ use Rattle.node.proofs.slots.Finding.{indexOf}
 use Rattle.node.proofs.rollover.Promises.{PromisedWritten}
 use Rattle.node.proofs.next_frame.Ways.{frame-given}
 use Rattle.node_bytes.specs.declared.next_frame.GivenOut.{GivenOut}
-use Rattle.node_bytes.specs.Layout.{nodeSize}
+use Rattle.node_bytes.specs.Layout.{slotStart, nodeSize}
 use Rattle.node_bytes.specs.Decoding.{slotAt, decode}
+use Rattle.node_bytes.specs.Encoding.{encodeSlot}
 use Rattle.node_bytes.specs.Lent.{withSlot}
 use Rattle.node_bytes.specs.LentCalls.{lentOutcome, asGivenOut}
 use Rattle.node_bytes.proofs.ByIndex.{decoded-slot, decoded-length}
-use Rattle.node_bytes.proofs.Calling.{AllTold, refusal-told, no-node, as-node, call-refused, call-done}
+use Rattle.node_bytes.proofs.Calling.{AllTold, refusal-told, no-node, as-node, call-refused, slot-put}
 
 -- the parts of an answer that are not the node
 abbrev lent : Given → GivenOut
@@ -63,12 +64,6 @@ module _ (output bytes : List ℕ) where
         let t = told _ _ w in
         (t .0, (t .1, call-refused call bytes whole r (ap answered (w .0 .0)) .1))
 
-    next-done : (m : Node) (id : BusId) (len : ℕ) (written after : List ℕ) → Answers (record { node = m; reply = Done; id = id; len = len }) written
-        → length after ≡ length bytes → decode after ≡ m → Gives (record { reply = Done; id = id; len = len }) written after
-    next-done m id len written after w long left =
-        let t = told _ _ w in
-        (t .0, (t .1, call-done call bytes whole m [] after (ap answered (w .0 .0)) long left .1))
-
     -- the slot that was found and read, and what is made of it
     module _ (room : nextRoom ≤ length output) (i : ℕ) (at-index : i ≡ indexOf hasFrame (n .slots)) (inside : i < slotCount)
         (s : Slot) (there : s ≡ slotAt bytes i) (code : ℕ) (lowest : code ≡ lowestCode s) where
@@ -76,11 +71,12 @@ module _ (output bytes : List ℕ) where
           → joined ≡ join (s .stream) code → x ≡ givenOut code s
           → length (payloadFor code s) ≤ maxPayload → len ≡ length (fitting (payloadFor code s) output)
           → written ≡ over (fitting (payloadFor code s) output) output
-          → length after ≡ length bytes → decode after ≡ withSlot i x n
+          → (after ≡ sets bytes (slotStart i) (encodeSlot x)) × (decode after ≡ withSlot i x n)
           → Gives (record { reply = Done; id = joined .id; len = len }) written after
-      next-given x joined len written after id made small long copied stays left =
+      next-given x joined len written after id made small long copied put =
           let same : s ≡ getD (n .slots) i empty = there ∙ sym (decoded-slot bytes i empty inside) in
-          next-done _ (joined .id) len written after
-          (frame-given output n room i at-index (omega (arith, decoded-length bytes)) empty code (rw same at lowest) x joined len written
-          (rw same at id) (rw same at made) (rw same at small) (rw same at long) (rw same at copied))
-          stays left
+          let w =
+          frame-given output n room i at-index (omega (arith, decoded-length bytes)) empty code (rw same at lowest) x joined len written
+          (rw same at id) (rw same at made) (rw same at small) (rw same at long) (rw same at copied) in
+          let t = told _ _ w in
+          (t .0, (t .1, slot-put call bytes whole i x [] after (ap answered (w .0 .0)) put .1))

@@ -6,7 +6,7 @@ use Prim.Native.Nat.{ℕ, _+_, _≤_, _<_}
 use native.Mathlib.Omega.{arith}
 use borrow.Author.Tests.{lt-ltb}
 use lib.ListN.{length, getD}
-use lib.Seq.{sets, length-sets}
+use lib.Seq.{sets}
 use Rattle.wire.specs.declared.reply.Reply.the-variants.{Done, BadLength, ShortOutput}
 use Rattle.wire.specs.Frames.{maxPayload}
 use Rattle.node.specs.declared.slots.Slot.{Slot}
@@ -28,6 +28,7 @@ use Rattle.node_bytes.specs.Encoding.{encodeSlot}
 use Rattle.node_bytes.specs.Lent.{withSlot, withCounter}
 use Rattle.node_bytes.specs.LentCalls.{asWritten}
 use Rattle.node_bytes.proofs.ByIndex.{decoded-slot, decoded-length}
+use Rattle.node_bytes.proofs.Stored.{stored-length}
 use Rattle.node_bytes.proofs.Calling.{AllTold, all-told, refusal-told, no-node, as-node, call-done}
 
 -- ── the loop ──
@@ -78,7 +79,7 @@ module _ {now : ℕ} {bytes₀ out₀ bytes out : List ℕ} {i at : ℕ} (t : Ti
             → Ticking now bytes₀ out₀ after out₁ (i + 1) at₁
         slot-lapses writing =
             record {
-              whole = ap length (put .0) ∙ length-sets bytes (slotStart i) (encodeSlot y) ∙ t .whole;
+              whole = stored-length bytes after i y (put .0) ∙ t .whole;
               lapsing = rw (put .1) (one-lapses (t .lapsing) empty h age (rw as-decoded at a) y (rw as-decoded at made));
               writing = writing;
             }

@@ -36,11 +36,11 @@ module _ (new old : List ℕ) where
   abbrev pub SameFrom : (at n : ℕ) → Type 0
   SameFrom at n = (j : ℕ) → at ≤ j → j < at + n → byteAt new j ≡ byteAt old j
 
-  number-same : (k at : ℕ) → SameFrom at k → numberAt k new at ≡ numberAt k old at
+  pub number-same : (k at : ℕ) → SameFrom at k → numberAt k new at ≡ numberAt k old at
   number-same zero at same = refl
   number-same (suc k) at same = rw (same at (omega arith) (omega arith), number-same k (suc at) (λ j p q. same j (omega arith) (omega arith)))
 
-  bytes-same : (k at : ℕ) → SameFrom at k → bytesAt k new at ≡ bytesAt k old at
+  pub bytes-same : (k at : ℕ) → SameFrom at k → bytesAt k new at ≡ bytesAt k old at
   bytes-same zero at same = refl
   bytes-same (suc k) at same = rw (same at (omega arith) (omega arith), bytes-same k (suc at) (λ j p q. same j (omega arith) (omega arith)))
 

@@ -6,6 +6,8 @@ pub mod ByIndex
 pub mod NodeRoundTrip
 pub mod AreBytes
 pub mod Stored
+pub mod PendingStored
+pub mod MessageStored
 pub mod Searching
 pub mod Fitting
 pub mod Lent

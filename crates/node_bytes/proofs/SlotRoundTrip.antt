@@ -18,7 +18,7 @@ use Rattle.node_bytes.specs.Encoding.{flag, encodeSlot}
 use Rattle.node_bytes.specs.Widths.{Fits16, SlotFits}
 use Rattle.node_bytes.proofs.Places.{all-bytes}
 
-flag-back : (b : Bool) → not (eqb (flag b) 0) ≡ b
+pub flag-back : (b : Bool) → not (eqb (flag b) 0) ≡ b
 flag-back true = refl
 flag-back false = refl
 

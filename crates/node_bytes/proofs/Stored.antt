@@ -35,11 +35,40 @@ pub stored-length : (before after : List ℕ) (i : ℕ) (x : Slot) → after ≡
 stored-length before after i x e = ap (λ (l : List ℕ). length l) e ∙ length-sets before (slotStart i) (encodeSlot x)
 
 -- ── a slot ──
+-- where only bytes of slot i have changed, only that slot has
+module _ (bytes after : List ℕ) (i : ℕ) (x : Slot) (inside : i < slotCount) (here : slotAt after i ≡ x)
+    (outside : (j : ℕ) → Outside (slotStart i) slotSize j → byteAt after j ≡ byteAt bytes j) where
+  elsewhere : (j : ℕ) → (j < i) ⊎ (i < j) → slotAt after j ≡ slotAt bytes j
+  elsewhere j (inl h) = slot-same after bytes (slotStart j) (λ k p q. outside k (inl (omega arith)))
+  elsewhere j (inr h) = slot-same after bytes (slotStart j) (λ k p q. outside k (inr (omega arith)))
+
+  each-slot : (j : ℕ) (same : Bool) → eqb j i ≡ same → j < slotCount → slotAt after j ≡ getD (set (decode bytes .slots) i x) j empty
+  each-slot j true e h =
+      let same = eqb-true j i e in
+      rw same (here ∙ sym (getD-set-same (decode bytes .slots) i x empty (omega (arith, decoded-length bytes))))
+  each-slot j false e h =
+      let other = eqb-false j i e in
+      elsewhere j (either j i other)
+      ∙ sym (getD-set-other (decode bytes .slots) i j x empty other ∙ decoded-slot bytes j empty h)
+
+  pub decode-changed : decode after ≡ withSlot i x (decode bytes)
+  decode-changed =
+      same-node
+      (ext-getD empty (decode after .slots) (set (decode bytes .slots) i x)
+      (decoded-length after ∙ sym (length-set (decode bytes .slots) i x ∙ decoded-length bytes))
+      (λ j h.
+      let less : j < slotCount = omega (arith, decoded-length after) in
+      decoded-slot after j empty less ∙ each-slot j (eqb j i) refl less))
+      (decoded-counter after
+      ∙ counter-same after bytes counterAt (λ k p q. outside k (inr (omega arith)))
+      ∙ sym (decoded-counter bytes))
+
+-- the whole slot is stored
 module _ (bytes : List ℕ) (i : ℕ) (x : Slot) (whole : length bytes ≡ nodeSize) (inside : i < slotCount) (fits : SlotFits x) where
   abbrev after : List ℕ
   after = sets bytes (slotStart i) (encodeSlot x)
 
-  pub stored-here : slotAt after i ≡ x
+  stored-here : slotAt after i ≡ x
   stored-here =
       let at : ℕ = slotStart i in
       let own : List ℕ = encodeSlot x in
@@ -48,34 +77,10 @@ module _ (bytes : List ℕ) (i : ℕ) (x : Slot) (whole : length bytes ≡ nodeS
       rw (sets-eq own bytes at (omega arith), append-assoc (take at bytes) own (drop (at + length own) bytes))
       (ap (slotFrom (take at bytes ++ (own ++ drop (at + length own) bytes))) front ∙ slot-back (take at bytes) _ x fits)
 
-  -- a byte of no slot but i
-  stored-outside : (j : ℕ) → Outside (slotStart i) slotSize j → byteAt after j ≡ byteAt bytes j
-  stored-outside j o = byte-elsewhere bytes (encodeSlot x) (slotStart i) j (rw (length-encoded-slot x) o)
-
-  pub stored-elsewhere : (j : ℕ) → (j < i) ⊎ (i < j) → slotAt after j ≡ slotAt bytes j
-  stored-elsewhere j (inl h) = slot-same after bytes (slotStart j) (λ k p q. stored-outside k (inl (omega arith)))
-  stored-elsewhere j (inr h) = slot-same after bytes (slotStart j) (λ k p q. stored-outside k (inr (omega arith)))
-
-  each-slot : (j : ℕ) (same : Bool) → eqb j i ≡ same → j < slotCount → slotAt after j ≡ getD (set (decode bytes .slots) i x) j empty
-  each-slot j true e h =
-      let same = eqb-true j i e in
-      rw same (stored-here ∙ sym (getD-set-same (decode bytes .slots) i x empty (omega (arith, decoded-length bytes))))
-  each-slot j false e h =
-      let other = eqb-false j i e in
-      stored-elsewhere j (either j i other)
-      ∙ sym (getD-set-other (decode bytes .slots) i j x empty other ∙ decoded-slot bytes j empty h)
-
   pub decode-stored : decode after ≡ withSlot i x (decode bytes)
   decode-stored =
-      same-node
-      (ext-getD empty (decode after .slots) (set (decode bytes .slots) i x)
-      (decoded-length after ∙ sym (length-set (decode bytes .slots) i x ∙ decoded-length bytes))
-      (λ j h.
-      let less : j < slotCount = omega (arith, decoded-length after) in
-      decoded-slot after j empty less ∙ each-slot j (eqb j i) refl less))
-      (decoded-counter after
-      ∙ counter-same after bytes counterAt (λ k p q. stored-outside k (inr (omega arith)))
-      ∙ sym (decoded-counter bytes))
+      decode-changed bytes after i x inside stored-here
+      (λ j o. byte-elsewhere bytes (encodeSlot x) (slotStart i) j (rw (length-encoded-slot x) o))
 
 -- ── the counter ──
 module _ (bytes : List ℕ) (c : ℕ) (whole : length bytes ≡ nodeSize) (fits : Fits16 c) where

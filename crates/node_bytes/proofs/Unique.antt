@@ -17,6 +17,8 @@ use Rattle.node_bytes.proofs.counter.store_counter.Reads as store-count
 use Rattle.node_bytes.proofs.fresh.fresh.Reads as fresh
 use Rattle.node_bytes.proofs.request.request.Reads as request
 use Rattle.node_bytes.proofs.hear.hear.Reads as hear
+use Rattle.node_bytes.proofs.tick.tick.Reads as tick
+use Rattle.node_bytes.proofs.next_frame.next_frame.Reads as next-frame
 use Rattle.node_bytes.proofs.set_up.set_up.Reads as set-up
 
 pub is-node-unique : OneAnswer is-node.Post
@@ -79,3 +81,21 @@ hear-content-unique l input a b s t p q = same (p .1 .0) (q .1 .0)
 
 pub hear-node-unique : OneNode hear.Post (λ l e. now (e .0))
 hear-node-unique l input a b s t p q = same (p .1 .1 .node) (q .1 .1 .node)
+
+pub tick-unique : OneAnswer tick.Post
+tick-unique l input a b s t p q = same (p .0) (q .0)
+
+pub tick-content-unique : OneContent tick.Post (λ l e. now (e .1 .0))
+tick-content-unique l input a b s t p q = same (p .1 .0) (q .1 .0)
+
+pub tick-node-unique : OneNode tick.Post (λ l e. now (e .0))
+tick-node-unique l input a b s t p q = same (p .1 .1 .node) (q .1 .1 .node)
+
+pub next-frame-unique : OneAnswer next-frame.Post
+next-frame-unique l input a b s t p q = same (p .0) (q .0)
+
+pub next-frame-content-unique : OneContent next-frame.Post (λ l e. now (e .1 .0))
+next-frame-content-unique l input a b s t p q = same (p .1 .0) (q .1 .0)
+
+pub next-frame-node-unique : OneNode next-frame.Post (λ l e. now (e .0))
+next-frame-node-unique l input a b s t p q = same (p .1 .1 .node) (q .1 .1 .node)

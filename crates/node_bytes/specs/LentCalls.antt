@@ -19,18 +19,19 @@ use Rattle.node_bytes.specs.Lent.{isNode}
 abbrev pub lentOutcome : Call → (bytes : List ℕ) → Outcome
 lentOutcome c bytes = cond (isNode bytes) (outcome rolled c (decode bytes)) (refused (decode bytes) BadLength)
 
+-- as a call answers it that writes to a lent output
+abbrev pub asWritten : Outcome → Written
+asWritten o = record { reply = o .reply; written = length (o .bytes) }
+
+-- as the next frame answers it
+abbrev pub asGivenOut : Outcome → GivenOut
+asGivenOut o = record { reply = o .reply; id = o .id; len = length (o .bytes) }
+
 -- the bytes after it: the node's, in as many bytes; and after a refusal every byte is as it was
 pub record Leaves (c : Call) (before after : List ℕ) : Type 0 where
   pub length-stays : length after ≡ length before
   pub node : decode after ≡ lentOutcome c before .node
   pub refused-unchanged : lentOutcome c before .reply ≢ Done → after ≡ before
-
--- the outcome as hear and tick answer it, and as next frame does
-abbrev pub asWritten : Outcome → Written
-asWritten o = record { reply = o .reply; written = length (o .bytes) }
-
-abbrev pub asGivenOut : Outcome → GivenOut
-asGivenOut o = record { reply = o .reply; id = o .id; len = length (o .bytes) }
 
 -- for every input any two contents of the lent bytes that meet a promise are the same node
 module _ {L : Type 0} {I A E : L → Type 0} where

@@ -29,21 +29,6 @@ pub(crate) fn find(bytes: &[u8], stream: Stream) -> usize
     i
 }
 
-// The index of the first slot with a frame pending; where there is none, the number of slots.
-pub(crate) fn find_frame(bytes: &[u8]) -> usize
-    requires { ⌜ length (now bytes) ≡ nodeSize ⌝ }
-    ensures { λ r. ⌜ r ≡ indexOf hasFrame (decode (now (bytes .entry)) .slots) ⌝ }
-{
-    let mut i: usize = 0;
-    while i < Node::SLOTS {
-        if frame_at(bytes, i) {
-            return i;
-        }
-        i += 1;
-    }
-    i
-}
-
 // The same of the first free slot.
 pub(crate) fn find_free(bytes: &[u8]) -> usize
     requires { ⌜ length (now bytes) ≡ nodeSize ⌝ }
@@ -67,6 +52,21 @@ pub(crate) fn find_place(bytes: &[u8], stream: Stream) -> usize
     let mut i: usize = 0;
     while i < Node::SLOTS {
         if after_at(bytes, i, stream) {
+            return i;
+        }
+        i += 1;
+    }
+    i
+}
+
+// The same of the first slot with a frame pending.
+pub(crate) fn find_frame(bytes: &[u8]) -> usize
+    requires { ⌜ length (now bytes) ≡ nodeSize ⌝ }
+    ensures { λ r. ⌜ r ≡ indexOf hasFrame (decode (now (bytes .entry)) .slots) ⌝ }
+{
+    let mut i: usize = 0;
+    while i < Node::SLOTS {
+        if frame_at(bytes, i) {
             return i;
         }
         i += 1;

@@ -22,9 +22,9 @@ pub struct GivenOut {
 // Gives out the pending frame with the lowest bus identifier, of the first slot that has one; it is pending no longer.
 pub fn next_frame(bytes: &mut [u8], out: &mut [u8]) -> GivenOut
     ensures answer { λ r. ⌜ r ≡ asGivenOut (lentOutcome (Call.nextFrame (now (out .entry))) (now (bytes .entry))) ⌝ }
-    ensures output { λ r. ⌜ now (out .exit)
+    ensures output { λ _. ⌜ now (out .exit)
         ≡ over (lentOutcome (Call.nextFrame (now (out .entry))) (now (bytes .entry)) .bytes) (now (out .entry)) ⌝ }
-    ensures bytes { λ r. ⌜ Leaves (Call.nextFrame (now (out .entry))) (now (bytes .entry)) (now (bytes .exit)) ⌝ }
+    ensures leaves { λ _. ⌜ Leaves (Call.nextFrame (now (out .entry))) (now (bytes .entry)) (now (bytes .exit)) ⌝ }
 {
     if bytes.len() != layout::NODE_SIZE {
         return GivenOut {

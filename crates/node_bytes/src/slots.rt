@@ -6,6 +6,7 @@ use crate::numbers::flag;
 use crate::numbers::flag_at;
 use crate::numbers::four_at;
 use crate::numbers::put_eight;
+use crate::numbers::put_two;
 use crate::numbers::two_at;
 use node::slots::Message;
 use node::slots::Pending;
@@ -18,7 +19,7 @@ ghost use Prim.Native.Nat.{_+_, _≤_, _<_};
 ghost use lib.ListN.{length};
 ghost use lib.Seq.{sets};
 ghost use mathlib.Core.Bool.{true};
-ghost use Rattle.node.specs.Slots.{isFree, isOf};
+ghost use Rattle.node.specs.Slots.{isFree, isOf, withParts, withMessage};
 ghost use Rattle.node.specs.Nodes.{slotCount};
 ghost use Rattle.node.specs.Request.{hasPending};
 ghost use Rattle.node.specs.NextFrame.{hasFrame};
@@ -233,6 +234,34 @@ fn pending_from(bytes: &[u8], at: usize) -> Pending
         confirmation: flag_at(bytes, layout::CONFIRMATION_PENDING + at),
         abort: flag_at(bytes, layout::ABORT_PENDING + at),
     }
+}
+
+// Sets which frames of slot i are pending, and nothing else of it.
+pub(crate) fn put_pending(bytes: &mut [u8], i: usize, pending: Pending)
+    requires { ⌜ (length (now bytes) ≡ nodeSize) × (i < slotCount) ⌝ }
+    ensures { λ _. ⌜ (length (now (bytes .exit)) ≡ length (now (bytes .entry)))
+        × (decode (now (bytes .exit))
+        ≡ withSlot i (withParts (slotAt (now (bytes .entry)) i) (slotAt (now (bytes .entry)) i .message) pending) (decode (now (bytes .entry)))) ⌝ }
+{
+    let at = layout::SLOT_SIZE * i;
+    bytes[layout::PAYLOAD_PENDING + at] = flag(pending.payload);
+    bytes[layout::CONFIRMATION_PENDING + at] = flag(pending.confirmation);
+    bytes[layout::ABORT_PENDING + at] = flag(pending.abort);
+}
+
+// Sets the message of slot i, and nothing else of it.
+pub(crate) fn put_message(bytes: &mut [u8], i: usize, message: Message)
+    requires { ⌜ (length (now bytes) ≡ nodeSize) × (i < slotCount) ⌝ }
+    ensures { λ _. ⌜ (length (now (bytes .exit)) ≡ length (now (bytes .entry)))
+        × (decode (now (bytes .exit)) ≡ withSlot i (withMessage message (slotAt (now (bytes .entry)) i)) (decode (now (bytes .entry)))) ⌝ }
+{
+    let at = layout::SLOT_SIZE * i;
+    bytes[layout::HELD + at] = flag(message.held);
+    put_two(bytes, layout::STAMP + at, message.stamp);
+    bytes[layout::CONFIRMED + at] = flag(message.confirmed);
+    bytes[layout::LEN + at] = message.len;
+    let payload = message.bytes;
+    put_eight(bytes, layout::PAYLOAD + at, payload);
 }
 
 pub(crate) fn put_slot(bytes: &mut [u8], i: usize, slot: Slot)

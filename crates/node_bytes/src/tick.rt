@@ -19,9 +19,9 @@ ghost use Rattle.node_bytes.specs.LentCalls.{lentOutcome, asWritten, Lea
 // Moves the counter by one; what is due is delivered, and what is late dropped.
 pub fn tick(bytes: &mut [u8], out: &mut [u8]) -> Written
     ensures answer { λ r. ⌜ r ≡ asWritten (lentOutcome (Call.tick (now (out .entry))) (now (bytes .entry))) ⌝ }
-    ensures output { λ r. ⌜ now (out .exit)
+    ensures output { λ _. ⌜ now (out .exit)
         ≡ over (lentOutcome (Call.tick (now (out .entry))) (now (bytes .entry)) .bytes) (now (out .entry)) ⌝ }
-    ensures bytes { λ r. ⌜ Leaves (Call.tick (now (out .entry))) (now (bytes .entry)) (now (bytes .exit)) ⌝ }
+    ensures leaves { λ _. ⌜ Leaves (Call.tick (now (out .entry))) (now (bytes .entry)) (now (bytes .exit)) ⌝ }
 {
     if bytes.len() != layout::NODE_SIZE {
         return Written {

@@ -1,15 +1,10 @@
 -- `next_frame` meets its contract: each return cites the way through the node's own call.
 use borrow.Author.Needs.{needs}
 use native.Mathlib.Omega.{arith}
-use mathlib.Core.Path.{ap, _∙_}
-use lib.ListN.{length}
-use lib.Seq.{length-sets}
 use denote.Ref.{now}
 use Rattle.wire.specs.declared.reply.Reply.the-variants.{ShortOutput, Nothing}
 use Rattle.node.proofs.next_frame.Ways.{short-output, none-pending}
-use Rattle.node_bytes.specs.Layout.{slotStart}
 use Rattle.node_bytes.specs.Decoding.{decode}
-use Rattle.node_bytes.specs.Encoding.{encodeSlot}
 use Rattle.node_bytes.proofs.ByIndex.{decoded-length}
 use Rattle.node_bytes.proofs.CallingNext.{next-not-a-node, next-refused, next-given}
 use Rattle.node_bytes.proofs.next_frame.next_frame.Statement.{statement}
@@ -52,10 +47,9 @@ returns-4 c =
     let room = f .before .before in
     let a = room .before .before .before .before .args in
     let bytes = now (a .bytes) in
-    let stays = ap length (put .put-slot .ensures .0) ∙ length-sets bytes (slotStart (f .find-frame .result)) (encodeSlot (made .given-out .result)) in
     next-given (now (a .out)) bytes (room .before .if1 .left) (room .if2 .left) _ (f .find-frame .ensures) (omega arith)
     _ (read .slot-at .ensures) _ (code .lowest-code .ensures) _ (j .join .result) _ _ _ (j .join .ensures) (made .given-out .ensures)
-    (gave .give-payload .ensures .1 .1) (gave .give-payload .ensures .0) (gave .give-payload .ensures .1 .0) stays (put .put-slot .ensures .1)
+    (gave .give-payload .ensures .1 .1) (gave .give-payload .ensures .0) (gave .give-payload .ensures .1 .0) (put .put-slot .ensures)
 
 pub next-frame-spec : {M : Type 1} → statement M
 next-frame-spec =

@@ -105,11 +105,10 @@ loop-again-2 c =
     let turn = aged .before .before .before .before .before .before in
     let not-due = sym (tested .before .due .ensures) ∙ tested .if4 .left in
     let late = sym (asked .before .late .ensures) ∙ asked .if5 .taken in
-    (
-      omega arith,
-      slot-lapses-unwritten (turn .before .loop .inv .1) (turn .loop-test .taken) _ (aged .before .slot-at .ensures) _ (aged .age .ensures)
-      _ (put .before .dropped .ensures ∙ late-is-dropped _ _ late) _ (put .put-slot2 .ensures) not-due,
-    )
+    let next =
+    slot-lapses-unwritten (turn .before .loop .inv .1) (turn .loop-test .taken) _ (aged .before .slot-at .ensures) _ (aged .age .ensures)
+    _ (put .before .dropped .ensures ∙ late-is-dropped _ _ late) _ (put .put-slot2 .ensures) not-due in
+    (omega arith, next)
 
 loop-again-3 : tie.Need-loop-again-3 Inv-loop μ-loop
 loop-again-3 c =
@@ -122,11 +121,10 @@ loop-again-3 c =
     let not-due = sym (tested .before .due .ensures) ∙ tested .if4 .left in
     let not-late = sym (asked .before .late .ensures) ∙ asked .if5 .left in
     let is-over = sym (over .before .hold-over .ensures) ∙ over .if6 .taken in
-    (
-      omega arith,
-      slot-lapses-unwritten (turn .before .loop .inv .1) (turn .loop-test .taken) _ (aged .before .slot-at .ensures) _ (aged .age .ensures)
-      _ (put .before .hold-ended .ensures ∙ over-is-ended _ _ not-late not-due is-over) _ (put .put-slot3 .ensures) not-due,
-    )
+    let next =
+    slot-lapses-unwritten (turn .before .loop .inv .1) (turn .loop-test .taken) _ (aged .before .slot-at .ensures) _ (aged .age .ensures)
+    _ (put .before .hold-ended .ensures ∙ over-is-ended _ _ not-late not-due is-over) _ (put .put-slot3 .ensures) not-due in
+    (omega arith, next)
 
 loop-again-4 : tie.Need-loop-again-4 Inv-loop μ-loop
 loop-again-4 c =
@@ -137,11 +135,10 @@ loop-again-4 c =
     let not-due = sym (tested .before .due .ensures) ∙ tested .if4 .left in
     let not-late = sym (asked .before .late .ensures) ∙ asked .if5 .left in
     let not-over = sym (c .before .hold-over .ensures) ∙ c .if6 .left in
-    (
-      omega arith,
-      slot-stays (turn .before .loop .inv .1) (turn .loop-test .taken) _ (aged .before .slot-at .ensures) _ (aged .age .ensures)
-      (record { not-late = not-late; not-due = not-due; not-over = not-over }),
-    )
+    let next =
+    slot-stays (turn .before .loop .inv .1) (turn .loop-test .taken) _ (aged .before .slot-at .ensures) _ (aged .age .ensures)
+    (record { not-late = not-late; not-due = not-due; not-over = not-over }) in
+    (omega arith, next)
 
 loop-again-5 : tie.Need-loop-again-5 Inv-loop μ-loop
 loop-again-5 c =
