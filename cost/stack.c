@@ -1,10 +1,9 @@
 /* How many bytes of stack each call takes at most, from its caller in C down, the answer included: from the stack painted before the call, with the
  * form of forms.h that it is built for. Prints a line `CALL BYTES` for each. A caller here holds the answer and puts the node back, and
  * nothing else; its return address is the first of the bytes. */
-#define _XOPEN_SOURCE 700
+#include "painted.h"
+
 #include <stdio.h>
-#include <string.h>
-#include <ucontext.h>
 
 #include "forms.h"
 
@@ -18,10 +17,6 @@ static size_t length;
 static Settings settings;
 
 /* ---- the callers ---- */
-static void nothing(void)
-{
-}
-
 static void call_set_up(void)
 {
     Answered a = set_up(LENT(node), number, settings);
@@ -62,46 +57,15 @@ static void call_next_frame(void)
     said = (uint32_t)a.reply + a.id + (uint32_t)a.length;
 }
 
-/* ---- the painted stack ---- */
-enum { ROOM = 65536 };
-static uint8_t stack[ROOM];
-static ucontext_t here;
-static ucontext_t there;
-static void (*volatile asked)(void);
-
-static void on_painted(void)
-{
-    asked();
-}
-
-/* How far down from its top the stack is written. */
-static size_t depth(void (*caller)(void), int paint)
-{
-    size_t low = 0;
-
-    memset(stack, paint, sizeof stack);
-    getcontext(&there);
-    there.uc_stack.ss_sp = stack;
-    there.uc_stack.ss_size = sizeof stack;
-    there.uc_link = &here;
-    asked = caller;
-    makecontext(&there, on_painted, 0);
-    swapcontext(&here, &there);
-    while (low < sizeof stack && stack[low] == (uint8_t)paint) {
-        low++;
-    }
-    return sizeof stack - low;
-}
-
 /* By two colours, since a byte that is written may have the colour of one. */
 static size_t deepest(void (*caller)(void))
 {
     Node kept = node;
-    size_t a = depth(caller, 0xa5);
+    size_t a = painted(caller, 0xa5);
     size_t b;
 
     node = kept;
-    b = depth(caller, 0x5a);
+    b = painted(caller, 0x5a);
     return a > b ? a : b;
 }
 
@@ -110,7 +74,7 @@ static size_t most;
 
 static void look(void (*caller)(void))
 {
-    size_t whole = deepest(caller) - deepest(nothing) + sizeof(void *);
+    size_t whole = deepest(caller);
 
     if (whole > most) {
         most = whole;
