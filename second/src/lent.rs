@@ -171,6 +171,11 @@ impl Slot {
         self.payload_pending || self.confirmation_pending || self.abort_pending
     }
 
+    /// Whether no tick changes the slot, whatever it holds: it sends nothing, and receives nothing that is held.
+    pub fn rests(&self) -> bool {
+        self.role > 1 || (self.role == 0 && !(1..=2).contains(&self.class))
+    }
+
     fn bytes_held(&self) -> Vec<u8> {
         self.payload[..usize::from(self.length).min(8)].to_vec()
     }

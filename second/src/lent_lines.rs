@@ -78,14 +78,19 @@ fn time(counter: u16) -> u64 {
     131_072 + u64::from(counter)
 }
 
-/// A slot after a call is what the node that had it alone has now.
-fn same_part(slot: &Slot, stream: u32, alone: &Node) -> Result<(), String> {
-    let kept = match slot.kept(alone.now()) {
-        Kept::Part(part) => Some(part),
-        Kept::Free | Kept::Neither => None,
-        Kept::Odd => return Err("a slot became odd".to_string()),
+/// A slot after a call is what the node that had it alone has now; where that is what it had before, nothing of the
+/// slot changed.
+fn same_part(old: &Slot, new: &Slot, before: u64, alone: &Node) -> Result<(), String> {
+    let part = |slot: &Slot, now: u64| match slot.kept(now) {
+        Kept::Part(part) => Ok(Some(part)),
+        Kept::Free | Kept::Neither => Ok(None),
+        Kept::Odd => Err("a slot became odd".to_string()),
     };
-    same("the slot after", kept.as_ref(), alone.part(Stream(stream)))
+    let after = alone.part(Stream(old.stream));
+    if part(old, before)?.as_ref() == after {
+        same("a slot that no call changed", new, old)?;
+    }
+    same("the slot after", part(new, alone.now())?.as_ref(), after)
 }
 
 /// Every slot but one is as it was, and the counter too.
@@ -122,7 +127,7 @@ fn on_stream(
     let reply = call(&mut alone)?;
     same("the reply", answer.reply, reply as u32)?;
     if let Some(i) = i {
-        same_part(&after.slots[i], stream, &alone)?;
+        same_part(&before.slots[i], &after.slots[i], now, &alone)?;
     }
     Ok(true)
 }
@@ -185,12 +190,13 @@ fn tick(before: &Decoded, after: &Decoded, mut output: Vec<u8>, answer: &Answer)
     for (old, new) in before.slots.iter().zip(&after.slots) {
         match old.kept(time(before.counter)) {
             Kept::Free | Kept::Neither => same("a slot that no tick changes", new, old)?,
+            Kept::Odd if old.rests() => same("a slot that no tick changes", new, old)?,
             Kept::Odd => whole = false,
             Kept::Part(part) => {
                 let mut alone = Node::at(time(before.counter), Stream(old.stream), Some(part));
                 let mut record = [0; TICK_OUTPUT];
                 let ticked = alone.tick(&mut record);
-                same_part(new, old.stream, &alone)?;
+                same_part(old, new, time(before.counter), &alone)?;
                 output[written..written + ticked.written].copy_from_slice(&record[..ticked.written]);
                 written += ticked.written;
             }
@@ -220,7 +226,7 @@ fn next_frame(before: &Decoded, after: &Decoded, mut output: Vec<u8>, answer: &A
     same("the output", &answer.output, &output)?;
     others_stay(before, after, i)?;
     if let Some(i) = i {
-        same_part(&after.slots[i], before.slots[i].stream, &alone)?;
+        same_part(&before.slots[i], &after.slots[i], now, &alone)?;
     }
     Ok(true)
 }

@@ -144,15 +144,17 @@ static void random_bytes(void)
         node[i] = (uint8_t)draw();
 }
 
-/* Slots of random parts, most with a role, a class and frames pending that a node can have. */
+/* Slots of random parts, most or all with a role, a class and frames pending that a node can have. */
 static void random_slots(void)
 {
+    bool all = one_in(2);
+
     random_bytes();
     for (size_t i = 0; i < KOSMYDORE_SLOTS; i++) {
         uint8_t *slot = node + SLOT_SIZE * i;
 
         wild_slot(slot, i, two_at(node + COUNTER));
-        if (one_in(32))
+        if (!all && one_in(32))
             continue;
         slot[ROLE] %= 2;
         slot[CLASS] %= 3;
