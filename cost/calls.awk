@@ -1,4 +1,4 @@
-# From a callgrind file: all instructions, and those inside the calls of the function that ends in `name`.
+# From a callgrind file: all instructions, and those inside the calls of the function that ends in `name`, the library's too.
 /^c?fn=/ {
     id = $1
     sub(/^c?fn=/, "", id)
@@ -8,7 +8,7 @@
     called = names[id]
 }
 /^calls=/ {
-    counts = called ~ ("(^|::)" name "$")
+    counts = called ~ ("(^|::|^kosmydore_(module_)?)" name "$")
     getline
     if (counts) {
         inside += $2

@@ -1,6 +1,6 @@
 /* The node in plain C, as it would be written by hand for one module: the types, with the fields of the proved node in
  * the same order, and the five calls. With BY_VALUE each call takes the whole node and gives the whole node back, as the
- * proved one does; without it the node is changed where it stands. */
+ * proved one does; without it the node is changed where it stands. forms.h has these beside the forms of the library. */
 #ifndef NODE_H
 #define NODE_H
 
@@ -85,7 +85,7 @@ struct given {
     struct node node;
     enum reply reply;
     uint32_t id;
-    size_t len;
+    size_t length;
 };
 
 struct answered set_up(struct node node, uint32_t stream, struct settings settings);
@@ -109,7 +109,7 @@ struct delivered {
 struct given {
     enum reply reply;
     uint32_t id;
-    size_t len;
+    size_t length;
 };
 
 struct answered set_up(struct node *node, uint32_t stream, struct settings settings);

@@ -4,7 +4,7 @@
 #include <stdio.h>
 #include <string.h>
 
-#include "node.h"
+#include "forms.h"
 
 enum call { CALL_HEAR, CALL_TICK, CALL_REQUEST, CALL_NEXT_FRAME, CALL_SET_UP, ANY_CALL };
 enum streams { MIXED, RECEIVED, SENT, TWO_RECEIVED, TWO_SENT, HIGHEST_LAST };
@@ -15,17 +15,8 @@ struct asked {
     size_t len;
     uint8_t first;
     size_t room;
-    struct settings settings;
+    Settings settings;
 };
-
-/* LENT is the node as a call takes it, and BACK puts the node that the call gave back in its place. */
-#ifdef BY_VALUE
-#define LENT(node) (node)
-#define BACK(node, answer) ((node) = (answer).node)
-#else
-#define LENT(node) (&(node))
-#define BACK(node, answer) ((void)(answer))
-#endif
 
 static uint32_t next(uint32_t random)
 {
@@ -45,15 +36,15 @@ static uint32_t stream_of(uint32_t k)
 /* Of the streams 57 to 88 the last has the highest number of all. */
 enum { BELOW_HIGHEST = 57, HIGHEST = 88 };
 
-static struct settings settings_of(uint8_t role, uint32_t class_)
+static Settings settings_of(uint8_t role, uint32_t class_)
 {
     switch (class_) {
     case PLAIN:
-        return (struct settings){0, 0, 0, 0, role, PLAIN};
+        return SETTINGS(role, PLAIN, 0, 0, 0, 0);
     case IMD:
-        return (struct settings){50, 0, 0, 100, role, IMD};
+        return SETTINGS(role, IMD, 50, 0, 0, 100);
     default:
-        return (struct settings){50, 80, 10, 100, role, TWO_MESSAGE};
+        return SETTINGS(role, TWO_MESSAGE, 50, 80, 10, 100);
     }
 }
 
@@ -134,7 +125,7 @@ static struct asked stream(uint64_t i, uint32_t random)
 
 static const uint8_t fixed[9] = {0, 1, 2, 3, 4, 5, 6, 7, 8};
 
-static struct settings settings_in(enum streams which, uint32_t k)
+static Settings settings_in(enum streams which, uint32_t k)
 {
     switch (which) {
     case MIXED:
@@ -152,52 +143,52 @@ static struct settings settings_in(enum streams which, uint32_t k)
     }
 }
 
-static struct node streams(enum streams which)
+static Node streams(enum streams which)
 {
     uint32_t first = which == HIGHEST_LAST ? BELOW_HIGHEST : 0;
-    struct node node = {0};
+    Node node = fresh();
 
     for (uint32_t k = 0; k < 32; k++) {
-        struct answered a = set_up(LENT(node), stream_of(first + k), settings_in(which, k));
+        Answered a = set_up(LENT(node), stream_of(first + k), settings_in(which, k));
 
         BACK(node, a);
     }
     return node;
 }
 
-static struct node ticked(struct node node)
+static Node ticked(Node node)
 {
     uint8_t out[512];
-    struct delivered a = tick(LENT(node), out, sizeof out);
+    Delivered a = tick(LENT(node), out, sizeof out);
 
     BACK(node, a);
     return node;
 }
 
 /* The node once it heard data of stream k. */
-static struct node heard(struct node node, uint32_t k)
+static Node heard(Node node, uint32_t k)
 {
     uint8_t out[16];
-    struct delivered a = hear(LENT(node), stream_of(k) * 4, 8, fixed, 8, out, sizeof out);
+    Delivered a = hear(LENT(node), stream_of(k) * 4, 8, fixed, 8, out, sizeof out);
 
     BACK(node, a);
     return node;
 }
 
 /* The node once it heard a confirmation of stream k. */
-static struct node confirmed(struct node node, uint32_t k)
+static Node confirmed(Node node, uint32_t k)
 {
     uint8_t out[16];
-    struct delivered a = hear(LENT(node), stream_of(k) * 4 + 1, 0, fixed, 0, out, sizeof out);
+    Delivered a = hear(LENT(node), stream_of(k) * 4 + 1, 0, fixed, 0, out, sizeof out);
 
     BACK(node, a);
     return node;
 }
 
 /* The node once it was asked for a message of stream k. */
-static struct node requested(struct node node, uint32_t k)
+static Node requested(Node node, uint32_t k)
 {
-    struct answered a = request(LENT(node), stream_of(k), fixed, 8);
+    Answered a = request(LENT(node), stream_of(k), fixed, 8);
 
     BACK(node, a);
     return node;
@@ -206,7 +197,7 @@ static struct node requested(struct node node, uint32_t k)
 /* What is done to a stream: data is heard, data and a confirmation are, or a message is asked for. */
 enum done { HEARD, CONFIRMED, REQUESTED };
 
-static struct node after(struct node node, enum done done, uint32_t k)
+static Node after(Node node, enum done done, uint32_t k)
 {
     switch (done) {
     case HEARD:
@@ -219,9 +210,9 @@ static struct node after(struct node node, enum done done, uint32_t k)
 }
 
 /* This is done to so many of every four streams, and so many ticks follow; where `apart` is true, one follows each. */
-static struct node held(enum streams which, enum done done, uint32_t of_four, bool apart, uint32_t ticks)
+static Node held(enum streams which, enum done done, uint32_t of_four, bool apart, uint32_t ticks)
 {
-    struct node node = streams(which);
+    Node node = streams(which);
 
     for (uint32_t k = 0; k < 32; k++) {
         if (k % 4 < of_four) {
@@ -275,7 +266,7 @@ static const struct work {
     [MIXED_CALLS] = {"mixed", ANY_CALL, 65536},
 };
 
-static struct node start_of(size_t work)
+static Node start_of(size_t work)
 {
     switch (work) {
     case HEAR:
@@ -297,7 +288,7 @@ static struct node start_of(size_t work)
     case NEXT_MANY:
         return held(TWO_SENT, REQUESTED, 4, false, 0);
     case SET_UP:
-        return (struct node){0};
+        return fresh();
     default:
         return streams(SENT);
     }
@@ -345,17 +336,17 @@ static struct asked asked_of(size_t work, enum call call, uint64_t i, uint32_t r
 }
 
 /* The checksum with what the node does at a next frame and a tick. */
-static uint32_t ended(struct node node, uint32_t sum)
+static uint32_t ended(Node node, uint32_t sum)
 {
     uint8_t out[512] = {0};
-    struct given given = next_frame(LENT(node), out, sizeof out);
-    struct delivered delivered;
+    Given given = next_frame(LENT(node), out, sizeof out);
+    Delivered delivered;
 
     BACK(node, given);
     delivered = tick(LENT(node), out, sizeof out);
     BACK(node, delivered);
     sum = mixed(sum, given.id);
-    sum = mixed(sum, node.counter);
+    sum = mixed(sum, COUNTER_OF(node));
     for (size_t i = 0; i < sizeof out; i++) {
         sum = mixed(sum, out[i]);
     }
@@ -365,13 +356,13 @@ static uint32_t ended(struct node node, uint32_t sum)
 static uint32_t run(size_t work, uint64_t rounds, uint64_t calls)
 {
     uint64_t period = works[work].period;
-    struct node start = start_of(work);
-    struct node node = start;
+    Node start = start_of(work);
+    Node node = start;
     uint32_t random = 1;
     uint32_t sum = 0;
 
     for (uint64_t i = 0; i < rounds; i++) {
-        enum reply reply = DONE;
+        uint32_t reply = 0;
         uint32_t id = 0;
         size_t count = 0;
         enum call call = works[work].call;
@@ -392,7 +383,7 @@ static uint32_t run(size_t work, uint64_t rounds, uint64_t calls)
         if (i < calls) {
             switch (call) {
             case CALL_HEAR: {
-                struct delivered a = hear(LENT(node), asked.number, asked.dlc, payload, asked.len, out, asked.room);
+                Delivered a = hear(LENT(node), asked.number, asked.dlc, payload, asked.len, out, asked.room);
 
                 BACK(node, a);
                 reply = a.reply;
@@ -400,7 +391,7 @@ static uint32_t run(size_t work, uint64_t rounds, uint64_t calls)
                 break;
             }
             case CALL_TICK: {
-                struct delivered a = tick(LENT(node), out, asked.room);
+                Delivered a = tick(LENT(node), out, asked.room);
 
                 BACK(node, a);
                 reply = a.reply;
@@ -408,23 +399,23 @@ static uint32_t run(size_t work, uint64_t rounds, uint64_t calls)
                 break;
             }
             case CALL_REQUEST: {
-                struct answered a = request(LENT(node), asked.number, payload, asked.len);
+                Answered a = request(LENT(node), asked.number, payload, asked.len);
 
                 BACK(node, a);
                 reply = a.reply;
                 break;
             }
             case CALL_NEXT_FRAME: {
-                struct given a = next_frame(LENT(node), out, asked.room);
+                Given a = next_frame(LENT(node), out, asked.room);
 
                 BACK(node, a);
                 reply = a.reply;
                 id = a.id;
-                count = a.len;
+                count = a.length;
                 break;
             }
             case CALL_SET_UP: {
-                struct answered a = set_up(LENT(node), asked.number, asked.settings);
+                Answered a = set_up(LENT(node), asked.number, asked.settings);
 
                 BACK(node, a);
                 reply = a.reply;
@@ -451,7 +442,7 @@ static void answer(const char *line)
 
     if (sscanf(line, "%15s %lu %lu", name, &rounds, &calls) == 3) {
         if (strcmp(name, "size") == 0) {
-            printf("%lu\n", (unsigned long)sizeof(struct node));
+            printf("%lu\n", (unsigned long)sizeof(Node));
             return;
         }
         for (size_t work = 0; work < WORKS; work++) {

@@ -24,10 +24,10 @@
 #define KOSMYDORE_H
 
 /* The version, as the file VERSION and `./kosmydore --version` have it. */
-#define KOSMYDORE_VERSION "4.3.1"
-#define KOSMYDORE_VERSION_MAJOR 4
-#define KOSMYDORE_VERSION_MINOR 3
-#define KOSMYDORE_VERSION_PATCH 1
+#define KOSMYDORE_VERSION "5.0.0"
+#define KOSMYDORE_VERSION_MAJOR 5
+#define KOSMYDORE_VERSION_MINOR 0
+#define KOSMYDORE_VERSION_PATCH 0
 
 #include <stdbool.h>
 #include <stddef.h>

@@ -22,6 +22,8 @@ pub mod history;
 pub mod history_counts;
 pub mod ident;
 pub mod judge;
+pub mod lent;
+pub mod lent_lines;
 pub mod limits;
 pub mod lines;
 pub mod messages;

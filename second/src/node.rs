@@ -88,6 +88,11 @@ impl Node {
         Node { now: 0, parts: BTreeMap::new(), fault, order: Vec::new(), heard_one: false }
     }
 
+    /// A node at some time, with this part for a stream, or with none.
+    pub fn at(now: u64, stream: Stream, part: Option<Part>) -> Node {
+        Node { now, parts: part.into_iter().map(|part| (stream, part)).collect(), ..Node::fresh() }
+    }
+
     /// The ticks since the node was fresh.
     pub fn now(&self) -> u64 {
         self.now
