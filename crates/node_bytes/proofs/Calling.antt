@@ -68,8 +68,7 @@ module _ (c : Call) (before : List ℕ) where
         → length after ≡ length before → decode after ≡ m → Told Done after
     call-done m written after e long left =
         let f = e ∙ ap asAnswered (sym as-node) in
-        let says = ap (λ (a : Answered). a .reply) f in
-        (
+        let says = ap (λ (a : Answered). a .reply) f in (
           says,
           record {
             length-stays = long;

@@ -9,7 +9,6 @@ pub mod Stored
 pub mod PendingStored
 pub mod MessageStored
 pub mod Searching
-pub mod Found
 pub mod Fitting
 pub mod Lent
 pub mod Calling

@@ -9,7 +9,7 @@ use lib.Seq.{sets}
 use Rattle.wire.specs.Frames.{maxPayload}
 use Rattle.wire.specs.Delivered.{numberAt}
 use Rattle.node.specs.declared.slots.Slot.{Slot}
-use Rattle.node_bytes.specs.Layout.{streamAt, payloadPendingAt, dataReachAt, payloadAt}
+use Rattle.node_bytes.specs.Layout.{streamAt, payloadPendingAt, dataReachAt, payloadAt, slotSize}
 use Rattle.node_bytes.specs.Decoding.{byteAt, bytesAt}
 use Rattle.node_bytes.specs.Encoding.{keyRow, stateRow, reachRow, encodeSlot}
 
@@ -61,3 +61,21 @@ unfolding encodeSlot
 rows-stored out at x eight =
     rw (steps streamAt at, steps payloadPendingAt at, steps dataReachAt at, steps payloadAt at)
     (ap (λ (l : List ℕ). sets out at (keyRow x ++ stateRow x ++ reachRow (x .settings) ++ l)) (sym (all-bytes maxPayload (x .message .bytes) eight)))
+
+-- and the rows of a slot, each copied to its place
+pub rows-copied : (out bytes : List ℕ) (to from : ℕ)
+    → sets (sets (sets (sets out (streamAt + to) (bytesAt 8 bytes (streamAt + from))) (payloadPendingAt + to) (bytesAt 8 bytes (payloadPendingAt + from)))
+    (dataReachAt + to) (bytesAt 8 bytes (dataReachAt + from)))
+    (payloadAt + to) (bytesAt 8 bytes (payloadAt + from))
+    ≡ sets out to (bytesAt slotSize bytes from)
+rows-copied out bytes to from =
+    rw (
+      steps streamAt to,
+      steps payloadPendingAt to,
+      steps dataReachAt to,
+      steps payloadAt to,
+      steps streamAt from,
+      steps payloadPendingAt from,
+      steps dataReachAt from,
+      steps payloadAt from,
+    )

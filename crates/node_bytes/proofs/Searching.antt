@@ -1,14 +1,18 @@
 -- A loop that looks in the bytes for the first slot of which a test is true.
-use mathlib.Core.Path.{_≡_, sym, ap, _∙_}
-use mathlib.Core.Bool.{Bool, true, false}
+use mathlib.Core.Path.{_≡_, refl, sym, ap, _∙_}
+use mathlib.Core.Bool.{Bool, true, false, false≢true}
 use mathlib.Core.List.{List}
 use Prim.Native.Nat.{ℕ, _+_, _≤_, _<_}
 use native.Mathlib.Omega.{arith}
-use lib.ListN.{getD}
+use borrow.Author.Tests.{ltb-true, ltb-false}
+use lib.ListN.{length, getD}
+use lib.Dec.{ltb}
+use Rattle.wire.specs.declared.ids.Stream.{Stream}
 use Rattle.node.specs.declared.slots.Slot.{Slot}
-use Rattle.node.specs.Slots.{empty}
+use Rattle.node.specs.Slots.{empty, isFree}
 use Rattle.node.specs.Nodes.{slotCount}
-use Rattle.node.proofs.slots.Finding.{indexOf, NoneBefore, none-at-first, found-here, not-here, found-nowhere}
+use Rattle.node.proofs.slots.Finding.{indexOf, found, before-first, NoneBefore, none-at-first, found-here, not-here, found-nowhere}
+use Rattle.node.proofs.set_up.Placing.{isAfter}
 use Rattle.node_bytes.specs.Decoding.{slotAt, decode}
 use Rattle.node_bytes.proofs.ByIndex.{decoded-slot, decoded-length}
 
@@ -37,3 +41,15 @@ module _ (test : Slot → Bool) (bytes : List ℕ) where
 
     pub nowhere : slotCount ≤ i → IsFirst i
     nowhere past = found-nowhere test (decode bytes .slots) i (omega (arith, decoded-length bytes)) (before .1)
+
+-- ── the place of a new slot ──
+-- it is not behind the first free one
+pub place-before-free : (s : Stream) (l : List Slot) → indexOf isFree l < length l → indexOf (isAfter s) l ≤ indexOf isFree l
+place-before-free s l room = by-test (ltb (indexOf isFree l) (indexOf (isAfter s) l)) refl
+  where
+    free : isFree (getD l (indexOf isFree l) empty) ≡ true
+    free = found isFree l room .holds empty
+
+    by-test : (t : Bool) → ltb (indexOf isFree l) (indexOf (isAfter s) l) ≡ t → indexOf (isAfter s) l ≤ indexOf isFree l
+    by-test true e = absurd (false≢true (sym (before-first (isAfter s) l (indexOf isFree l) empty (ltb-true _ _ e)) ∙ rw free))
+    by-test false e = ltb-false _ _ e

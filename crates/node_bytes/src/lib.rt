@@ -25,6 +25,9 @@
 //
 // Each public function answers for every buffer and every index. The others ask for a buffer of the
 // node's length and a slot that is there: calls test that once, and then use them.
+//
+// A call answers, and leaves, what the node's own call does to the node that the bytes are. It
+// decodes the one slot that it is about, takes the step that `node` has for it, and stores it.
 use wire::reply::Reply;
 
 pub mod counter;

@@ -3,8 +3,8 @@ use crate::finding::find;
 use crate::finding::find_free;
 use crate::finding::find_place;
 use crate::layout;
+use crate::slots::copy_up;
 use crate::slots::put_slot;
-use crate::slots::slot_at;
 use node::Node;
 use node::slots::Slot;
 use wire::ids::Stream;
@@ -55,7 +55,6 @@ fn move_up(bytes: &mut [u8], place: usize, free: usize)
     let mut i = free;
     while i > place {
         i -= 1;
-        let s = slot_at(bytes, i);
-        put_slot(bytes, i + 1, s);
+        copy_up(bytes, i);
     }
 }

@@ -277,6 +277,24 @@ pub(crate) fn put_slot(bytes: &mut [u8], i: usize, slot: Slot)
     put_eight(bytes, layout::PAYLOAD + at, payload);
 }
 
+// Copies slot i to the next one.
+pub(crate) fn copy_up(bytes: &mut [u8], i: usize)
+    requires { ⌜ (length (now bytes) ≡ nodeSize) × (i + 1 < slotCount) ⌝ }
+    ensures { λ _. ⌜ (length (now (bytes .exit)) ≡ nodeSize)
+        × (decode (now (bytes .exit)) ≡ withSlot (i + 1) (slotAt (now (bytes .entry)) i) (decode (now (bytes .entry)))) ⌝ }
+{
+    let from = layout::SLOT_SIZE * i;
+    let to = layout::SLOT_SIZE + from;
+    let key = eight_at(bytes, layout::STREAM + from);
+    let state = eight_at(bytes, layout::PAYLOAD_PENDING + from);
+    let reach = eight_at(bytes, layout::DATA_REACH + from);
+    let payload = eight_at(bytes, layout::PAYLOAD + from);
+    put_eight(bytes, layout::STREAM + to, key);
+    put_eight(bytes, layout::PAYLOAD_PENDING + to, state);
+    put_eight(bytes, layout::DATA_REACH + to, reach);
+    put_eight(bytes, layout::PAYLOAD + to, payload);
+}
+
 fn key_row(slot: Slot) -> [u8; 8]
     ensures { λ r. ⌜ r ≡ keyRow slot ⌝ }
 {

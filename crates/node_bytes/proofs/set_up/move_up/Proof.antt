@@ -13,7 +13,6 @@ use Rattle.node.proofs.set_up.Placing.{movedUp, none-moved, moved-in}
 use Rattle.node_bytes.specs.Layout.{nodeSize}
 use Rattle.node_bytes.specs.Decoding.{decode}
 use Rattle.node_bytes.proofs.ByIndex.{decoded-slot, decoded-length}
-use Rattle.node_bytes.proofs.Stored.{stored-length}
 use Rattle.node_bytes.proofs.set_up.move_up.Statement.{statement}
 use Rattle.node_bytes.proofs.set_up.move_up.Tie as tie
 
@@ -36,24 +35,21 @@ loop-holds c =
 
 loop-again : tie.Need-loop-again Inv-loop μ-loop
 loop-again c =
-    let put = c .before .before in
-    let read = put .before .before in
-    let l = read .before .before .before in
+    let copied = c .before .before in
+    let l = copied .before .before .before in
     let s = l .before .before in
     let (place, at-most, whole, moved) = l .loop .inv in
     let (_, _, inside, free) = s .pre in
     let n = decode (now (s .args .bytes)) in
     let bytes : List ℕ = l .loop .bytes in
     let m = decode bytes in
-    let i : ℕ = l .loop .i in
-    let slot = read .slot-at .ensures ∙ sym (decoded-slot bytes (i - 1) empty (omega arith)) in
-    (
+    let i : ℕ = l .loop .i in (
       omega arith,
       omega arith,
-      stored-length bytes _ (i - 1 + 1) (read .slot-at .result) (put .put-slot .ensures .0) ∙ whole,
-      put .put-slot .ensures .1
-      ∙ ap (λ (x : Slot). withSlots (set (m .slots) (i - 1 + 1) x) m) slot
-      ∙ moved-in n m i empty moved (omega arith) (omega arith) (omega (arith, decoded-length (now (s .args .bytes)))),
+      copied .copy-up .ensures .0,
+      copied .copy-up .ensures .1
+          ∙ ap (λ (x : Slot). withSlots (set (m .slots) (i - 1 + 1) x) m) (sym (decoded-slot bytes (i - 1) empty (omega arith)))
+          ∙ moved-in n m i empty moved (omega arith) (omega arith) (omega (arith, decoded-length (now (s .args .bytes)))),
     )
 
 returns : tie.Need-returns Inv-loop μ-loop
@@ -69,8 +65,6 @@ move-up-spec =
     Inv-loop
     μ-loop
     loop-holds
-    (λ c. search needs)
-    (λ c κs. search needs)
     (λ c. search needs)
     (λ c κs. search needs)
     (λ c. search needs)

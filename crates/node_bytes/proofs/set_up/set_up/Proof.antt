@@ -17,7 +17,7 @@ use Rattle.node_bytes.specs.Layout.{nodeSize}
 use Rattle.node_bytes.specs.Decoding.{decode}
 use Rattle.node_bytes.proofs.ByIndex.{decoded-length}
 use Rattle.node_bytes.proofs.Stored.{stored-length}
-use Rattle.node_bytes.proofs.Found.{place-before-free}
+use Rattle.node_bytes.proofs.Searching.{place-before-free}
 use Rattle.node_bytes.proofs.Calling.{not-a-node, call-refused, call-done}
 use Rattle.node_bytes.proofs.set_up.set_up.Statement.{statement}
 use Rattle.node_bytes.proofs.set_up.set_up.Tie as tie
