@@ -42,15 +42,15 @@ module _ (new old : List ℕ) where
   later-part : (to from n : ℕ) → SameAs to from (suc n) → SameAs (suc to) (suc from) n
   later-part to from n same p q a b c = same p q (omega arith) (omega arith) (omega arith)
 
-  number-moved : (k to from : ℕ) → SameAs to from k → numberAt k new to ≡ numberAt k old from
-  number-moved zero to from same = refl
-  number-moved (suc k) to from same =
-      rw (same to from (omega arith) (omega arith) (omega arith), number-moved k (suc to) (suc from) (later-part to from k same))
+  number-same : (k to from : ℕ) → SameAs to from k → numberAt k new to ≡ numberAt k old from
+  number-same zero to from same = refl
+  number-same (suc k) to from same =
+      rw (same to from (omega arith) (omega arith) (omega arith), number-same k (suc to) (suc from) (later-part to from k same))
 
-  bytes-moved : (k to from : ℕ) → SameAs to from k → bytesAt k new to ≡ bytesAt k old from
-  bytes-moved zero to from same = refl
-  bytes-moved (suc k) to from same =
-      rw (same to from (omega arith) (omega arith) (omega arith), bytes-moved k (suc to) (suc from) (later-part to from k same))
+  bytes-same : (k to from : ℕ) → SameAs to from k → bytesAt k new to ≡ bytesAt k old from
+  bytes-same zero to from same = refl
+  bytes-same (suc k) to from same =
+      rw (same to from (omega arith) (omega arith) (omega arith), bytes-same k (suc to) (suc from) (later-part to from k same))
 
   module _ (to from : ℕ) (same : SameAs to from slotSize) where
     part : (offset k : ℕ) → offset + k ≤ slotSize → SameAs (offset + to) (offset + from) k
@@ -60,7 +60,7 @@ module _ (new old : List ℕ) where
     byte-of offset inside = same (offset + to) (offset + from) (omega arith) (omega arith) (omega arith)
 
     number-of : (k offset : ℕ) → offset + k ≤ slotSize → numberAt k new (offset + to) ≡ numberAt k old (offset + from)
-    number-of k offset inside = number-moved k (offset + to) (offset + from) (part offset k inside)
+    number-of k offset inside = number-same k (offset + to) (offset + from) (part offset k inside)
 
     pub slot-moved : slotFrom new to ≡ slotFrom old from
     unfolding slotFrom
@@ -81,7 +81,7 @@ module _ (new old : List ℕ) where
           number-of 2 confirmDelayAt (omega arith),
           number-of 2 abortReachAt (omega arith),
           number-of 2 deliverDelayAt (omega arith),
-          bytes-moved maxPayload (payloadAt + to) (payloadAt + from) (part payloadAt maxPayload (omega arith)),
+          bytes-same maxPayload (payloadAt + to) (payloadAt + from) (part payloadAt maxPayload (omega arith)),
         )
 
   -- and from the same place on
@@ -91,14 +91,14 @@ module _ (new old : List ℕ) where
   in-place : (at n : ℕ) → SameFrom at n → SameAs at at n
   in-place at n same p q a b c = let e : p ≡ q = omega arith in same p a b ∙ ap (byteAt old) e
 
-  pub number-same : (k at : ℕ) → SameFrom at k → numberAt k new at ≡ numberAt k old at
-  number-same k at same = number-moved k at at (in-place at k same)
+  pub number-stays : (k at : ℕ) → SameFrom at k → numberAt k new at ≡ numberAt k old at
+  number-stays k at same = number-same k at at (in-place at k same)
 
-  pub bytes-same : (k at : ℕ) → SameFrom at k → bytesAt k new at ≡ bytesAt k old at
-  bytes-same k at same = bytes-moved k at at (in-place at k same)
+  pub bytes-stay : (k at : ℕ) → SameFrom at k → bytesAt k new at ≡ bytesAt k old at
+  bytes-stay k at same = bytes-same k at at (in-place at k same)
 
   pub counter-same : (at : ℕ) → SameFrom at 2 → numberAt 2 new at ≡ numberAt 2 old at
-  counter-same = number-same 2
+  counter-same = number-stays 2
 
   pub slot-same : (at : ℕ) → SameFrom at slotSize → slotFrom new at ≡ slotFrom old at
   slot-same at same = slot-moved at at (in-place at slotSize same)

@@ -18,7 +18,7 @@ use Rattle.node_bytes.specs.Decoding.{byteAt, bytesAt, slotFrom, slotAt,
 use Rattle.node_bytes.specs.Encoding.{flag}
 use Rattle.node_bytes.specs.Lent.{withSlot}
 use Rattle.node_bytes.specs.Widths.{Fits16, MessageFits}
-use Rattle.node_bytes.proofs.Elsewhere.{Outside, byte-elsewhere, number-same}
+use Rattle.node_bytes.proofs.Elsewhere.{Outside, byte-elsewhere, number-stays}
 use Rattle.node_bytes.proofs.SlotRoundTrip.{flag-back}
 use Rattle.node_bytes.proofs.Stored.{decode-changed}
 
@@ -90,7 +90,7 @@ module _ (bytes : List ℕ) (i : ℕ) (whole : length bytes ≡ nodeSize) (insid
   behind j h = past-held j (inr (omega arith)) (λ e. omega arith) (λ e. omega arith) (inr (omega arith)) (λ e. omega arith)
 
   number-later : (offset : ℕ) → roleAt ≤ offset → offset + 2 ≤ payloadAt → numberAt 2 messaged (offset + at) ≡ numberAt 2 bytes (offset + at)
-  number-later offset h l = number-same messaged bytes 2 (offset + at) (λ j p q. later j (omega arith) (omega arith))
+  number-later offset h l = number-stays messaged bytes 2 (offset + at) (λ j p q. later j (omega arith) (omega arith))
 
   -- ── what is new ──
   held-is : byteAt messaged (heldAt + at) ≡ flag (m .held)
@@ -100,7 +100,7 @@ module _ (bytes : List ℕ) (i : ℕ) (whole : length bytes ≡ nodeSize) (insid
 
   stamp-is : numberAt 2 messaged (stampAt + at) ≡ m .stamp
   stamp-is =
-      number-same messaged with-stamp 2 (stampAt + at) (λ j p q. past-confirmed j (inl (omega arith)) (λ e. omega arith) (λ e. omega arith))
+      number-stays messaged with-stamp 2 (stampAt + at) (λ j p q. past-confirmed j (inl (omega arith)) (λ e. omega arith) (λ e. omega arith))
       ∙ number-stored with-held (stampAt + at) (m .stamp) (simp length-set (omega arith)) (fits .stamp)
 
   confirmed-is : byteAt messaged (confirmedAt + at) ≡ flag (m .confirmed)
@@ -122,7 +122,7 @@ module _ (bytes : List ℕ) (i : ℕ) (whole : length bytes ≡ nodeSize) (insid
   unfolding slotFrom
   messaged-here =
       rw (
-        number-same messaged bytes 4 (streamAt + at) (λ j p q. front j (omega arith)),
+        number-stays messaged bytes 4 (streamAt + at) (λ j p q. front j (omega arith)),
         front (usedAt + at) (omega arith),
         held-is,
         stamp-is,

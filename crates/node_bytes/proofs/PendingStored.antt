@@ -17,7 +17,7 @@ use Rattle.node_bytes.specs.Layout.{dataReachAt, confirmDelayAt, abortRe
 use Rattle.node_bytes.specs.Decoding.{byteAt, slotFrom, slotAt, decode}
 use Rattle.node_bytes.specs.Encoding.{flag}
 use Rattle.node_bytes.specs.Lent.{withSlot}
-use Rattle.node_bytes.proofs.Elsewhere.{Outside, SameFrom, number-same, bytes-same}
+use Rattle.node_bytes.proofs.Elsewhere.{Outside, SameFrom, number-stays, bytes-stay}
 use Rattle.node_bytes.proofs.SlotRoundTrip.{flag-back}
 use Rattle.node_bytes.proofs.Stored.{decode-changed}
 
@@ -57,7 +57,7 @@ module _ (bytes : List ℕ) (i : ℕ) (whole : length bytes ≡ nodeSize) (insid
 
   number-of : (k offset : ℕ) → (offset + k ≤ payloadPendingAt) ⊎ (confirmedAt ≤ offset)
       → numberAt k pended (offset + at) ≡ numberAt k bytes (offset + at)
-  number-of k offset h = number-same pended bytes k (offset + at) (part offset k h)
+  number-of k offset h = number-stays pended bytes k (offset + at) (part offset k h)
 
   payload-is : byteAt pended (payloadPendingAt + at) ≡ flag (p .payload)
   payload-is =
@@ -95,7 +95,7 @@ module _ (bytes : List ℕ) (i : ℕ) (whole : length bytes ≡ nodeSize) (insid
         number-of 2 confirmDelayAt (inr (omega arith)),
         number-of 2 abortReachAt (inr (omega arith)),
         number-of 2 deliverDelayAt (inr (omega arith)),
-        bytes-same pended bytes maxPayload (payloadAt + at) (part payloadAt maxPayload (inr (omega arith))),
+        bytes-stay pended bytes maxPayload (payloadAt + at) (part payloadAt maxPayload (inr (omega arith))),
       )
 
   outside : (j : ℕ) → Outside at slotSize j → byteAt pended j ≡ byteAt bytes j

@@ -63,33 +63,34 @@ module _ (bytes after : List ℕ) (i : ℕ) (x : Slot) (inside : i < slotCount) 
       ∙ counter-same after bytes counterAt (λ k p q. outside k (inr (omega arith)))
       ∙ sym (decoded-counter bytes))
 
--- the whole slot is stored
-module _ (bytes : List ℕ) (i : ℕ) (x : Slot) (whole : length bytes ≡ nodeSize) (inside : i < slotCount) (fits : SlotFits x) where
+-- the bytes of a slot are stored, whatever slot they are
+module _ (bytes row : List ℕ) (i : ℕ) (whole : length bytes ≡ nodeSize) (inside : i < slotCount) (long : length row ≡ slotSize) where
   abbrev after : List ℕ
-  after = sets bytes (slotStart i) (encodeSlot x)
+  after = sets bytes (slotStart i) row
 
-  stored-here : slotAt after i ≡ x
-  stored-here =
-      let at : ℕ = slotStart i in
-      let own : List ℕ = encodeSlot x in
-      let long = length-encoded-slot x in
-      let front : at ≡ length (take at bytes) = sym (length-take-le at bytes (omega arith)) in
-      rw (sets-eq own bytes at (omega arith), append-assoc (take at bytes) own (drop (at + length own) bytes))
-      (ap (slotFrom (take at bytes ++ (own ++ drop (at + length own) bytes))) front ∙ slot-back (take at bytes) _ x fits)
+  decode-row : (x : Slot) → slotAt after i ≡ x → decode after ≡ withSlot i x (decode bytes)
+  decode-row x here = decode-changed bytes after i x inside here (λ j o. byte-elsewhere bytes row (slotStart i) j (rw long o))
 
-  pub decode-stored : decode after ≡ withSlot i x (decode bytes)
-  decode-stored =
-      decode-changed bytes after i x inside stored-here
-      (λ j o. byte-elsewhere bytes (encodeSlot x) (slotStart i) j (rw (length-encoded-slot x) o))
+-- those of a slot with numbers that fit
+pub decode-stored : (bytes : List ℕ) (i : ℕ) (x : Slot) → length bytes ≡ nodeSize → i < slotCount → SlotFits x
+    → decode (sets bytes (slotStart i) (encodeSlot x)) ≡ withSlot i x (decode bytes)
+decode-stored bytes i x whole inside fits = decode-row bytes (encodeSlot x) i whole inside (length-encoded-slot x) x stored-here
+  where
+    stored-here : slotAt (sets bytes (slotStart i) (encodeSlot x)) i ≡ x
+    stored-here =
+        let at : ℕ = slotStart i in
+        let own : List ℕ = encodeSlot x in
+        let long = length-encoded-slot x in
+        let front : at ≡ length (take at bytes) = sym (length-take-le at bytes (omega arith)) in
+        rw (sets-eq own bytes at (omega arith), append-assoc (take at bytes) own (drop (at + length own) bytes))
+        (ap (slotFrom (take at bytes ++ (own ++ drop (at + length own) bytes))) front ∙ slot-back (take at bytes) _ x fits)
 
--- the bytes of another slot are
+-- those of another slot
 pub decode-copied : (bytes : List ℕ) (i j : ℕ) → length bytes ≡ nodeSize → i < slotCount
     → decode (sets bytes (slotStart i) (bytesAt slotSize bytes (slotStart j))) ≡ withSlot i (slotAt bytes j) (decode bytes)
 decode-copied bytes i j whole inside =
-    let row : List ℕ = bytesAt slotSize bytes (slotStart j) in
-    decode-changed bytes (sets bytes (slotStart i) row) i (slotAt bytes j) inside
+    decode-row bytes (bytesAt slotSize bytes (slotStart j)) i whole inside refl (slotAt bytes j)
     (slot-moved _ bytes (slotStart i) (slotStart j) (byte-copied slotSize bytes bytes (slotStart i) (slotStart j) (omega arith)))
-    (λ k o. byte-elsewhere bytes row (slotStart i) k o)
 
 -- ── the counter ──
 module _ (bytes : List ℕ) (c : ℕ) (whole : length bytes ≡ nodeSize) (fits : Fits16 c) where
