@@ -193,7 +193,7 @@ module _ (c : Call) (before : List ℕ) (whole : length before ≡ nodeSize) whe
       let is-done : o .reply ≡ Done = numbers-distinct (o .reply) Done (eqb-true _ _ e) in (
         encode (o .node),
         call-done c before whole (o .node) [] (encode (o .node)) (ap (λ (r : Reply). record { node = o .node; reply = r }) (sym is-done))
-        (length-encoded (o .node) (fits .slots-32) ∙ sym whole) (round-trip (o .node) fits) .1,
+            (length-encoded (o .node) (fits .slots-32) ∙ sym whole) (round-trip (o .node) fits) .1,
       )
   leaves-some fits false e =
       let same = refused-unchanged rolled c (decode before) (not-done (o .reply) e) .node in

@@ -26,7 +26,7 @@ set-up-tells l i a e p = p
 pub hear-tells :
     Tells hear-source.Post
     (λ l i a e.
-        Promised (hear (i .1 .0) (i .1 .1 .0) (now (i .1 .1 .1 .0)) (now (i .1 .1 .1 .1 .0))) (now (i .0)) a (now (e .1 .1 .1 .1 .0)) (now (e .0)))
+    Promised (hear (i .1 .0) (i .1 .1 .0) (now (i .1 .1 .1 .0)) (now (i .1 .1 .1 .1 .0))) (now (i .0)) a (now (e .1 .1 .1 .1 .0)) (now (e .0)))
 hear-tells l i a e (answer, (output, leaves)) = ((answer, output), leaves)
 
 pub tick-tells : Tells tick-source.Post (λ l i a e. Promised (tick (now (i .1 .0))) (now (i .0)) a (now (e .1 .0)) (now (e .0)))

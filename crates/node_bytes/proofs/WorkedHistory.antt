@@ -42,15 +42,15 @@ unfolding slotFrom slotsAt decode encodeSlot encode freshIn legal join first onF
 history-as-worked =
     record {
       run =
-        next ready Done [] afterSetUp (refl, leaves-done refl refl refl)
-        (next request₅ Done [] afterRequest (refl, leaves-done refl refl refl)
-        (next moments.next (record { reply = Done; id = record { 0 = 20 }; len = 2 }) (0x0a ∷ 0x0b ∷ replicate 6 0) afterFrame
-        ((refl, refl), leaves-done refl refl refl)
-        (next one-tick (record { reply = Done; written = 0 }) (replicate tickRoom 0) afterTick ((refl, refl), leaves-done refl refl refl)
-        start)));
+          next ready Done [] afterSetUp (refl, leaves-done refl refl refl)
+          (next request₅ Done [] afterRequest (refl, leaves-done refl refl refl)
+          (next moments.next (record { reply = Done; id = record { 0 = 20 }; len = 2 }) (0x0a ∷ 0x0b ∷ replicate 6 0) afterFrame
+          ((refl, refl), leaves-done refl refl refl)
+          (next one-tick (record { reply = Done; written = 0 }) (replicate tickRoom 0) afterTick ((refl, refl), leaves-done refl refl refl)
+          start)));
       short =
-        next ready BadLength [] short (refl, short-left ready)
-        (next request₅ BadLength [] short (refl, short-left request₅)
-        (next moments.next (record { reply = BadLength; id = noId; len = 0 }) (replicate nextRoom 0) short ((refl, refl), short-left moments.next)
-        (next one-tick (record { reply = BadLength; written = 0 }) (replicate tickRoom 0) short ((refl, refl), short-left one-tick) start)));
+          next ready BadLength [] short (refl, short-left ready)
+          (next request₅ BadLength [] short (refl, short-left request₅)
+          (next moments.next (record { reply = BadLength; id = noId; len = 0 }) (replicate nextRoom 0) short ((refl, refl), short-left moments.next)
+          (next one-tick (record { reply = BadLength; written = 0 }) (replicate tickRoom 0) short ((refl, refl), short-left one-tick) start)));
     }

@@ -26,12 +26,11 @@ returns c =
     let bytes = now (a .bytes) in
     let call = Call.hear id (a .dlc) payload out in
     let so =
-        ap (λ (d : ℕ). lentOutcome (Call.hear id d payload out) bytes) (judged .dlc-of .ensures) ∙ lent-heard-so id (a .dlc) payload out bytes in
+    ap (λ (d : ℕ). lentOutcome (Call.hear id d payload out) bytes) (judged .dlc-of .ensures) ∙ lent-heard-so id (a .dlc) payload out bytes in
     let told = called .hear .ensures in
     let says = told .0 ∙ ap asWritten so in
     let numbered = number .number .ensures in
-    let counts = counts-so call bytes _ _ numbered (ap (λ (w : Written). w .reply) says) (now (a .tally)) _ (counted .count-in .ensures .1) in
-    (
+    let counts = counts-so call bytes _ _ numbered (ap (λ (w : Written). w .reply) says) (now (a .tally)) _ (counted .count-in .ensures .1) in (
       asWrittenC (called .hear .result) (lentOutcome call bytes) _ numbered says,
       (
         told .1 .0 ∙ ap (λ (o : Outcome). over (o .bytes) out) so,

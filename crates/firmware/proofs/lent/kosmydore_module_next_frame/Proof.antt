@@ -19,7 +19,7 @@ returns c =
     let numbered = number .number .ensures in
     let call = Call.nextFrame (now (a .out)) in
     let counts =
-        counts-so call (now (a .bytes)) _ _ numbered (ap (λ (g : GivenOut). g .reply) (told .0)) (now (a .tally)) _ (counted .count-in .ensures .1) in
+    counts-so call (now (a .bytes)) _ _ numbered (ap (λ (g : GivenOut). g .reply) (told .0)) (now (a .tally)) _ (counted .count-in .ensures .1) in
     (asGivenOutC (called .next-frame .result) (lentOutcome call (now (a .bytes))) _ numbered (told .0), (told .1 .0, (told .1 .1, counts)))
 
 pub kosmydore-module-next-frame-spec : {M : Type 1} → statement M

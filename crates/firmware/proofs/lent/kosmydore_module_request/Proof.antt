@@ -14,8 +14,7 @@ returns c =
     let a = called .before .before .before .before .before .args in
     let told = called .request .ensures in
     let call = Call.request (record { 0 = a .stream }) (now (a .payload)) in
-    let bytes = now (a .bytes) in
-    (
+    let bytes = now (a .bytes) in (
       numbered call bytes _ _ (number .number .ensures) (told .0),
       (told .1, counts-so call bytes _ _ (number .number .ensures) (told .0) (now (a .tally)) _ (counted .count-in .ensures .1)),
     )

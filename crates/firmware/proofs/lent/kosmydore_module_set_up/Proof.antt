@@ -23,10 +23,9 @@ returns c =
     let bytes = now (a .bytes) in
     let call = Call.setUp x (inNumbers (a .settings)) in
     let so =
-        ap (λ (s : Settings). lentOutcome (Call.setUp x s) bytes) (judged .settings-of .ensures) ∙ lent-set-up-so x (a .settings) bytes in
+    ap (λ (s : Settings). lentOutcome (Call.setUp x s) bytes) (judged .settings-of .ensures) ∙ lent-set-up-so x (a .settings) bytes in
     let told = called .set-up .ensures in
-    let says = told .0 ∙ ap (λ (o : Outcome). o .reply) so in
-    (
+    let says = told .0 ∙ ap (λ (o : Outcome). o .reply) so in (
       numbered call bytes _ _ (number .number .ensures) says,
       (
         leaves-so (Call.setUp x (judged .settings-of .result)) call so (told .1),

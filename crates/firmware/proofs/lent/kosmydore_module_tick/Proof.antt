@@ -19,7 +19,7 @@ returns c =
     let numbered = number .number .ensures in
     let call = Call.tick (now (a .out)) in
     let counts =
-        counts-so call (now (a .bytes)) _ _ numbered (ap (λ (w : Written). w .reply) (told .0)) (now (a .tally)) _ (counted .count-in .ensures .1) in
+    counts-so call (now (a .bytes)) _ _ numbered (ap (λ (w : Written). w .reply) (told .0)) (now (a .tally)) _ (counted .count-in .ensures .1) in
     (asWrittenC (called .tick .result) (lentOutcome call (now (a .bytes))) _ numbered (told .0), (told .1 .0, (told .1 .1, counts)))
 
 pub kosmydore-module-tick-spec : {M : Type 1} → statement M
