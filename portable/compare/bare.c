@@ -78,15 +78,15 @@ void run(void)
     static struct bench bench;
     static struct call call;
     static struct answer expected, answer;
-    static uint8_t x[FLAT];
+    static uint8_t x[LEFT];
     unsigned long calls = 0, wrong = 0;
     while (read_whole(&call, sizeof call) && read_whole(&expected, sizeof expected)) {
         lend(&bench, &call);
         portable_call(&bench, &call, &answer);
-        flat(&bench.nodes[call.node], x);
-        answer.node = sum_of(x, FLAT);
+        left(&bench, call.node, x);
+        answer.left = sum_of(x, LEFT);
         answer.output = sum_of(bench.output, sizeof bench.output);
-        wrong += answer.node != expected.node || answer.output != expected.output || answer.reply != expected.reply ||
+        wrong += answer.left != expected.left || answer.output != expected.output || answer.reply != expected.reply ||
                  answer.written != expected.written || answer.id != expected.id || answer.numbers != expected.numbers;
         calls++;
     }

@@ -89,17 +89,45 @@ static const struct kosmydore_slot *some_slot(uint64_t *state, const struct kosm
     return slot;
 }
 
-void random_call(struct call *call, uint64_t *state, const struct kosmydore_node *nodes)
+/* Of the node that lent bytes are, what the choice of a call needs; crates/node_bytes/src/lib.rt lists the places. */
+static uint16_t two(const uint8_t *at) { return (uint16_t)(at[0] | at[1] << 8); }
+
+static void node_of(const uint8_t *lent, struct kosmydore_node *node)
+{
+    for (int i = 0; i < KOSMYDORE_SLOTS; i++) {
+        struct kosmydore_slot *s = &node->slots[i];
+        const uint8_t *at = lent + 32 * i;
+        s->stream = two(at) | (uint32_t)two(at + 2) << 16;
+        s->used = at[4] != 0;
+        s->settings.role = at[13];
+        s->settings.class_ = at[14];
+    }
+}
+
+static uint16_t lent_length(uint64_t *state)
+{
+    static const uint16_t edges[] = {0, 1, 2, 32, 1023, 1024, 1025, 1027, 1028, KOSMYDORE_NODE_BYTES + GUARD};
+    return below(state, 50) ? KOSMYDORE_NODE_BYTES : below(state, 2) ? PICK(state, edges) : (uint16_t)below(state, 1090);
+}
+
+void random_call(struct call *call, uint64_t *state, const struct bench *bench)
 {
     static const uint8_t mix[] = {HEAR, HEAR, HEAR, HEAR, HEAR, TICK, TICK, TICK, TICK, REQUEST, REQUEST,
                                   NEXT_FRAME, NEXT_FRAME, NEXT_FRAME, SET_UP, SET_UP};
     uint32_t r = below(state, 2000);
     memset(call, 0, sizeof *call);
-    call->kind = r == 0 ? FRESH : r < 8 ? WILD : r < 16 ? DUE : r < 200 ? NUMBERS : PICK(state, mix);
+    call->kind = r == 0 ? FRESH : r < 8 ? WILD : r < 16 ? DUE : r < 100 ? NUMBERS : r < 160 ? COUNT : PICK(state, mix);
+    call->form = below(state, 4) ? LENT : BY_VALUE;
     call->node = (uint8_t)below(state, NODES);
+    call->node_length = lent_length(state);
+    if (call->kind == FRESH && below(state, 2)) call->node_length = (uint16_t)(KOSMYDORE_NODE_BYTES - 1 + below(state, 3));
+    call->tally_length = (uint8_t)(below(state, 20) ? KOSMYDORE_TALLY_SIZE : below(state, TALLY_ROOM + 1));
     settings(call, state);
     call->number = call->kind == WILD || call->kind == DUE ? any(state) : stream(state);
-    const struct kosmydore_slot *slot = some_slot(state, &nodes[call->node], call->kind == REQUEST);
+    struct kosmydore_node lent;
+    if (call->form == LENT) node_of(bench->lent[call->node], &lent);
+    const struct kosmydore_node *node = call->form == LENT ? &lent : &bench->nodes[call->node];
+    const struct kosmydore_slot *slot = some_slot(state, node, call->kind == REQUEST);
     bool own = below(state, 4) != 0;
     if (own && (call->kind == HEAR || call->kind == REQUEST || (call->kind == SET_UP && below(state, 3) == 0))) {
         call->number = slot->stream; /* mostly one that the node has */
@@ -120,8 +148,9 @@ void random_call(struct call *call, uint64_t *state, const struct kosmydore_node
                        : below(state, 2) ? UINT32_C(536870909) + below(state, 6)
                                          : any(state);
         if ((call->code == 1 || call->code == 2) && below(state, 8)) call->payload_length = 0;
-        call->dlc = (uint8_t)(below(state, 20) ? call->payload_length : below(state, 2) ? below(state, 17) : any(state));
-        if (call->payload_length == 8 && below(state, 4) == 0) call->dlc = (uint8_t)(8 + below(state, 9));
+        call->dlc = below(state, 20) ? call->payload_length : below(state, 2) ? below(state, 17) : any(state);
+        if (call->payload_length == 8 && below(state, 4) == 0) call->dlc = 8 + below(state, 9);
+        if (below(state, 40) == 0) call->dlc += UINT32_C(1) << (8 * (1 + below(state, 3))); /* is not cut */
     }
 }
 
@@ -132,8 +161,9 @@ static void put(uint8_t **to, uint32_t number, int bytes)
 
 static void put_bool(uint8_t **to, const bool *is) { memcpy((*to)++, is, 1); } /* the byte: a bool of 2 is seen */
 
-void flat(const struct kosmydore_node *node, uint8_t to[FLAT])
+void left(const struct bench *bench, unsigned number, uint8_t to[LEFT])
 {
+    const struct kosmydore_node *node = &bench->nodes[number];
     uint8_t *at = to;
     for (int i = 0; i < KOSMYDORE_SLOTS; i++) {
         const struct kosmydore_slot *s = &node->slots[i];
@@ -154,6 +184,36 @@ void flat(const struct kosmydore_node *node, uint8_t to[FLAT])
         put_bool(&at, &s->pending.confirmation);
         put_bool(&at, &s->pending.abort);
         put_bool(&at, &s->used);
+    }
+    put(&at, node->counter, 2);
+    memcpy(at, bench->lent[number], NODE_ROOM);
+    at += NODE_ROOM;
+    for (int i = 0; i < TALLY_ROOM; i++) put(&at, bench->tally[number][i], 4);
+}
+
+static void lent_of(const struct kosmydore_node *node, uint8_t *lent)
+{
+    uint8_t *at = lent;
+    for (int i = 0; i < KOSMYDORE_SLOTS; i++) {
+        const struct kosmydore_slot *s = &node->slots[i];
+        put(&at, s->stream, 4);
+        put(&at, s->used, 1);
+        put(&at, s->message.held, 1);
+        put(&at, s->message.stamp, 2);
+        put(&at, s->pending.payload, 1);
+        put(&at, s->pending.confirmation, 1);
+        put(&at, s->pending.abort, 1);
+        put(&at, s->message.confirmed, 1);
+        put(&at, s->message.length, 1);
+        put(&at, s->settings.role, 1);
+        put(&at, s->settings.class_, 1);
+        put(&at, 0, 1);
+        put(&at, s->settings.data_reach, 2);
+        put(&at, s->settings.confirm_delay, 2);
+        put(&at, s->settings.abort_reach, 2);
+        put(&at, s->settings.deliver_delay, 2);
+        memcpy(at, s->message.bytes, sizeof s->message.bytes);
+        at += sizeof s->message.bytes;
     }
     put(&at, node->counter, 2);
 }
@@ -192,7 +252,7 @@ void paint(void)
     for (size_t i = 0; i < sizeof room / sizeof *room; i++) room[i] = UINT64_C(0xA5C3A5C3A5C3A5C3);
 }
 
-void wild(struct kosmydore_node *node, uint32_t seed)
+static void any_node(struct kosmydore_node *node, uint32_t seed)
 {
     uint64_t x = seed;
     bool all = seed % 4 == 0;
@@ -226,10 +286,10 @@ void wild(struct kosmydore_node *node, uint32_t seed)
     node->counter = (uint16_t)(x & 1 ? x >> 8 : x & 2 ? (x >> 8) % 50 : 65535 - (x >> 8) % 3);
 }
 
-void due(struct kosmydore_node *node, uint32_t seed)
+static void due(struct kosmydore_node *node, uint32_t seed)
 {
     uint64_t x = seed;
-    wild(node, seed | 1);
+    any_node(node, seed | 1);
     for (int i = 0; i < KOSMYDORE_SLOTS; i++) {
         struct kosmydore_slot *s = &node->slots[i];
         uint64_t r = random_step(&x);
@@ -261,5 +321,33 @@ void due(struct kosmydore_node *node, uint32_t seed)
                 s->used = true;
             }
         }
+    }
+}
+
+void wild(struct bench *bench, const struct call *call)
+{
+    uint64_t x = call->number;
+    uint8_t *lent = bench->lent[call->node];
+    struct kosmydore_node node;
+    (call->kind == DUE ? due : any_node)(&node, call->number);
+    if (call->form == BY_VALUE) {
+        bench->nodes[call->node] = node;
+        return;
+    }
+    lent_of(&node, lent);
+    uint64_t how = random_step(&x) % 8;
+    for (int i = 0; how < 4 && i < KOSMYDORE_SLOTS; i++) { /* a bool is any byte, and one byte of a slot is no field's */
+        static const uint8_t places[] = {4, 5, 8, 9, 10, 11, 15};
+        for (size_t k = 0; k < sizeof places; k++) {
+            uint64_t r = random_step(&x);
+            uint8_t *at = lent + 32 * i + places[k];
+            if (*at || (places[k] == 15 && r % 2)) *at = (uint8_t)(1 + (r >> 8) % 255);
+        }
+    }
+    for (size_t i = 0; how == 7 && call->kind == WILD && i < KOSMYDORE_NODE_BYTES; i++) lent[i] = (uint8_t)random_step(&x);
+    for (size_t i = KOSMYDORE_NODE_BYTES; i < NODE_ROOM; i++) lent[i] = (uint8_t)random_step(&x);
+    for (size_t i = 0; i < TALLY_ROOM; i++) {
+        uint64_t r = random_step(&x);
+        bench->tally[call->node][i] = r % 4 ? (uint32_t)(r >> 8) : UINT32_MAX - (uint32_t)((r >> 8) % 3);
     }
 }

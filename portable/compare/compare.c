@@ -1,7 +1,7 @@
 /* The C file against the kit's library in one process:
  *   compare CALLS SEED [VECTORS]
- * makes random calls on both, and compares every answer, every field of the node and every byte of the output's room and
- * of the payload's. The first calls and the library's answers go to the file VECTORS, for a replay on another chip. */
+ * makes random calls on both, and compares every answer, every field of the node, every byte of the lent node, of the
+ * tally, of the output's room and of the payload's. The first calls and the library's answers go to the file VECTORS, for a replay on another chip. */
 #include "call.h"
 
 #include <stdio.h>
@@ -13,29 +13,32 @@ make_call library_call, portable_call;
 enum { REPLAYED = 200000 };
 
 static struct bench library, portable;
-static const char *const titles[KINDS] = {"set_up", "hear", "tick", "request", "next_frame", "numbers", "fresh", "wild", "due"};
-static unsigned long made[KINDS], replies[KINDS][16], full_ticks;
+static const char *const titles[KINDS] = {"set_up", "hear", "tick", "request", "next_frame", "fresh", "count", "numbers", "wild", "due"};
+static const char *const forms[FORMS] = {"by value", "lent"};
+static unsigned long made[FORMS][KINDS], replies[FORMS][KINDS][16], full_ticks[FORMS];
 
 /* Whether every reply that a call can give was given, so that the calls show something. */
 static bool all_given(void)
 {
-    static const char *const can[] = {"0123", "04567;", "0;", "089:", "0;<"}; /* from 10 on: : ; < */
-    for (int kind = SET_UP; kind <= NEXT_FRAME; kind++)
-        for (const char *reply = can[kind]; *reply; reply++)
-            if (!replies[kind][*reply - '0']) {
-                printf("%s never answers %d\n", titles[kind], *reply - '0');
-                return false;
-            }
+    static const char *const can[FORMS][NUMBERS] = {{"0123", "04567;", "0;", "089:", "0;<", "0", "01"}, /* from 10 on: : ; < */
+                                                    {"0123:", "04567:;", "0:;", "089:", "0:;<", "0:", "01"}};
+    for (int form = 0; form < FORMS; form++)
+        for (int kind = SET_UP; kind < NUMBERS; kind++)
+            for (const char *reply = can[form][kind]; *reply; reply++)
+                if (!replies[form][kind][*reply - '0']) {
+                    printf("%s, %s, never answers %d\n", titles[kind], forms[form], *reply - '0');
+                    return false;
+                }
     return true;
 }
 
 static bool same(const struct call *call, const struct answer *a, const struct answer *b)
 {
-    uint8_t x[FLAT], y[FLAT];
-    flat(&library.nodes[call->node], x);
-    flat(&portable.nodes[call->node], y);
+    uint8_t x[LEFT], y[LEFT];
+    left(&library, call->node, x);
+    left(&portable, call->node, y);
     return a->reply == b->reply && a->written == b->written && a->id == b->id && a->numbers == b->numbers &&
-           memcmp(x, y, FLAT) == 0 && memcmp(library.output, portable.output, sizeof library.output) == 0 &&
+           memcmp(x, y, LEFT) == 0 && memcmp(library.output, portable.output, sizeof library.output) == 0 &&
            memcmp(library.payload, portable.payload, sizeof library.payload) == 0;
 }
 
@@ -50,41 +53,46 @@ int main(int argc, char **argv)
         fprintf(stderr, "usage: compare CALLS SEED [VECTORS]\n");
         return 2;
     }
-    for (unsigned long i = 0; i < count + NODES && wrong < 5; i++) {
-        random_call(&call, &state, library.nodes);
-        if (i < NODES) {
+    for (unsigned long i = 0; i < count + FORMS * NODES && wrong < 5; i++) {
+        random_call(&call, &state, &library);
+        if (i < FORMS * NODES) {
             call.kind = FRESH;
-            call.node = (uint8_t)i;
+            call.form = (uint8_t)(i / NODES);
+            call.node = (uint8_t)(i % NODES);
+            call.node_length = KOSMYDORE_NODE_BYTES;
         }
         lend(&library, &call);
         library_call(&library, &call, &a);
         lend(&portable, &call);
         portable_call(&portable, &call, &b);
-        made[call.kind]++;
-        replies[call.kind][a.reply & 15]++;
-        full_ticks += call.kind == TICK && a.written >= 16 * 8;
+        made[call.form][call.kind]++;
+        replies[call.form][call.kind][a.reply & 15]++;
+        full_ticks[call.form] += call.kind == TICK && a.written >= 16 * 8;
         if (!same(&call, &a, &b)) {
             wrong++;
-            printf("call %lu, %s: the library answers %lu %lu %lu, and the C file %lu %lu %lu\n", i, titles[call.kind],
-                   (unsigned long)a.reply, (unsigned long)a.written, (unsigned long)a.id, (unsigned long)b.reply,
+            printf("call %lu, %s, %s: the library answers %lu %lu %lu, and the C file %lu %lu %lu\n", i, titles[call.kind],
+                   forms[call.form], (unsigned long)a.reply, (unsigned long)a.written, (unsigned long)a.id, (unsigned long)b.reply,
                    (unsigned long)b.written, (unsigned long)b.id);
         }
         if (vectors && i < REPLAYED) {
-            uint8_t x[FLAT];
-            flat(&library.nodes[call.node], x);
-            a.node = sum_of(x, FLAT);
+            uint8_t x[LEFT];
+            left(&library, call.node, x);
+            a.left = sum_of(x, LEFT);
             a.output = sum_of(library.output, sizeof library.output);
             fwrite(&call, sizeof call, 1, vectors);
             fwrite(&a, sizeof a, 1, vectors);
         }
     }
     if (vectors && fclose(vectors) != 0) return 2;
-    for (int kind = 0; kind < KINDS; kind++) {
-        printf("%s %lu", titles[kind], made[kind]);
-        for (int reply = 0; kind <= NEXT_FRAME && reply < 16; reply++)
-            if (replies[kind][reply]) printf(" %d:%lu", reply, replies[kind][reply]);
-        printf(kind + 1 < KINDS ? "; " : "\n");
+    for (int form = 0; form < FORMS; form++) {
+        printf("%s", forms[form]);
+        for (int kind = 0; kind < KINDS; kind++) {
+            printf("; %s %lu", titles[kind], made[form][kind]);
+            for (int reply = 0; kind < NUMBERS && reply < 16; reply++)
+                if (replies[form][kind][reply]) printf(" %d:%lu", reply, replies[form][kind][reply]);
+        }
+        printf("\n");
     }
-    printf("%lu calls, %lu ticks of 16 records or more, %lu differ\n", count, full_ticks, wrong);
-    return wrong != 0 || full_ticks == 0 || !all_given();
+    printf("%lu calls, %lu and %lu ticks of 16 records or more, %lu differ\n", count, full_ticks[BY_VALUE], full_ticks[LENT], wrong);
+    return wrong != 0 || full_ticks[BY_VALUE] == 0 || full_ticks[LENT] == 0 || !all_given();
 }

@@ -29,23 +29,26 @@ static void numbers(const struct call *c, struct answer *a)
     mix(a, kosmydore_record_length(c->code));
 }
 
-void MAKE_CALL(struct bench *bench, const struct call *c, struct answer *a)
+static struct kosmydore_settings settings_of(const struct call *c)
+{
+    struct kosmydore_settings s;
+    s.role = c->role;
+    s.class_ = c->class_;
+    s.data_reach = c->s[0];
+    s.confirm_delay = c->s[1];
+    s.abort_reach = c->s[2];
+    s.deliver_delay = c->s[3];
+    return s;
+}
+
+static void by_value(struct bench *bench, const struct call *c, struct answer *a)
 {
     struct kosmydore_node *node = &bench->nodes[c->node];
     const uint8_t *payload = bench->payload + ROOM - c->payload_length;
     uint8_t *output = bench->output + ROOM - c->output_length;
-    struct kosmydore_settings s;
-    memset(a, 0, sizeof *a);
-    s.role = (uint8_t)c->role;
-    s.class_ = (uint8_t)c->class_;
-    s.data_reach = (uint16_t)c->s[0];
-    s.confirm_delay = (uint16_t)c->s[1];
-    s.abort_reach = (uint16_t)c->s[2];
-    s.deliver_delay = (uint16_t)c->s[3];
-    paint();
     switch (c->kind) {
     case SET_UP: {
-        struct kosmydore_answered r = kosmydore_set_up(*node, c->number, s);
+        struct kosmydore_answered r = kosmydore_set_up(*node, c->number, settings_of(c));
         *node = r.node;
         a->reply = r.reply;
         break;
@@ -78,9 +81,60 @@ void MAKE_CALL(struct bench *bench, const struct call *c, struct answer *a)
         a->written = (uint32_t)r.length;
         break;
     }
+    default: *node = kosmydore_fresh(); break;
+    }
+}
+
+static void lent(struct bench *bench, const struct call *c, struct answer *a)
+{
+    uint8_t *node = bench->lent[c->node];
+    uint32_t *tally = bench->tally[c->node];
+    const uint8_t *payload = bench->payload + ROOM - c->payload_length;
+    uint8_t *output = bench->output + ROOM - c->output_length;
+    switch (c->kind) {
+    case SET_UP: a->reply = kosmydore_module_set_up(node, c->node_length, c->number, settings_of(c), tally, c->tally_length); break;
+    case HEAR: {
+        struct kosmydore_written r = kosmydore_module_hear(node, c->node_length, c->number, c->dlc, payload, c->payload_length,
+                                                           output, c->output_length, tally, c->tally_length);
+        a->reply = r.reply;
+        a->written = (uint32_t)r.written;
+        break;
+    }
+    case TICK: {
+        struct kosmydore_written r =
+            kosmydore_module_tick(node, c->node_length, output, c->output_length, tally, c->tally_length);
+        a->reply = r.reply;
+        a->written = (uint32_t)r.written;
+        break;
+    }
+    case REQUEST:
+        a->reply = kosmydore_module_request(node, c->node_length, c->number, payload, c->payload_length, tally, c->tally_length);
+        break;
+    case NEXT_FRAME: {
+        struct kosmydore_given_out r =
+            kosmydore_module_next_frame(node, c->node_length, output, c->output_length, tally, c->tally_length);
+        a->reply = r.reply;
+        a->id = r.id;
+        a->written = (uint32_t)r.length;
+        break;
+    }
+    default: a->reply = kosmydore_module_fresh(node, c->node_length); break;
+    }
+}
+
+void MAKE_CALL(struct bench *bench, const struct call *c, struct answer *a)
+{
+    memset(a, 0, sizeof *a);
+    paint();
+    switch (c->kind) {
     case NUMBERS: numbers(c, a); break;
-    case FRESH: *node = kosmydore_fresh(); break;
-    case WILD: wild(node, c->number); break;
-    default: due(node, c->number); break;
+    case COUNT: {
+        uint32_t reply = c->code < 11 ? c->code + c->number % 4 : c->code;
+        a->reply = kosmydore_count(bench->tally[c->node], c->tally_length, reply);
+        break;
+    }
+    case WILD:
+    case DUE: wild(bench, c); break;
+    default: (c->form == LENT ? lent : by_value)(bench, c, a); break;
     }
 }

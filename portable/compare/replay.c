@@ -12,7 +12,7 @@ int main(int argc, char **argv)
     FILE *vectors = argc == 2 ? fopen(argv[1], "rb") : 0;
     struct call call;
     struct answer expected, answer;
-    uint8_t x[FLAT];
+    uint8_t x[LEFT];
     unsigned long calls = 0, wrong = 0;
     if (!vectors) {
         fprintf(stderr, "usage: replay VECTORS\n");
@@ -21,8 +21,8 @@ int main(int argc, char **argv)
     while (fread(&call, sizeof call, 1, vectors) == 1 && fread(&expected, sizeof expected, 1, vectors) == 1) {
         lend(&bench, &call);
         portable_call(&bench, &call, &answer);
-        flat(&bench.nodes[call.node], x);
-        answer.node = sum_of(x, FLAT);
+        left(&bench, call.node, x);
+        answer.left = sum_of(x, LEFT);
         answer.output = sum_of(bench.output, sizeof bench.output);
         wrong += memcmp(&answer, &expected, sizeof answer) != 0;
         calls++;

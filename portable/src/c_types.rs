@@ -179,9 +179,9 @@ impl<'a> CTypes<'a> {
     /// The layout that the program counts on, asserted, of what is the same on every chip.
     pub fn assertions(&mut self) -> Answer<String> {
         let macros = "#define KD_ASSERT(name, holds) typedef char kd_assert_##name[(holds) ? 1 : -1]
-#define KD_SIZE(type, size) KD_ASSERT(type, sizeof(struct type) == (size))
+#define KD_SIZE(type, size) KD_ASSERT(size_of_##type, sizeof(struct type) == (size))
 #define KD_FIELD(type, field, at, size) \\
-    KD_ASSERT(type##_##field, offsetof(struct type, field) == (at) && sizeof(((struct type *)0)->field) == (size))
+    KD_ASSERT(type##_at_##field, offsetof(struct type, field) == (at) && sizeof(((struct type *)0)->field) == (size))
 KD_ASSERT(byte, CHAR_BIT == 8);
 KD_ASSERT(bool, sizeof(bool) == 1);
 KD_ASSERT(size_t, sizeof(size_t) <= sizeof(uint64_t));

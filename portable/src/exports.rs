@@ -10,6 +10,13 @@ pub const FUNCTIONS: &[&str] = &[
     "firmware::kosmydore_settings_reply",
     "firmware::kosmydore_record_length_reply",
     "firmware::kosmydore_record_length",
+    "firmware::lent::kosmydore_module_fresh",
+    "firmware::lent::kosmydore_module_set_up",
+    "firmware::lent::kosmydore_module_hear",
+    "firmware::lent::kosmydore_module_tick",
+    "firmware::lent::kosmydore_module_request",
+    "firmware::lent::kosmydore_module_next_frame",
+    "firmware::lent::kosmydore_count",
     "firmware::calls::kosmydore_fresh",
     "firmware::calls::kosmydore_set_up",
     "firmware::calls::kosmydore_hear",
@@ -20,7 +27,10 @@ pub const FUNCTIONS: &[&str] = &[
 
 /// The structs that the header declares: the name in the program, and the one in C. Fields are matched in their order.
 pub const STRUCTS: &[(&str, &str)] = &[
-    ("wire::settings::Settings", "kosmydore_settings"),
+    ("firmware::judged::SettingsC", "kosmydore_settings"),
+    ("firmware::lent::WrittenC", "kosmydore_written"),
+    ("firmware::lent::GivenOutC", "kosmydore_given_out"),
+    ("wire::settings::Settings", "kosmydore_slot_settings"),
     ("node::slots::Message", "kosmydore_message"),
     ("node::slots::Pending", "kosmydore_pending"),
     ("node::slots::Slot", "kosmydore_slot"),
