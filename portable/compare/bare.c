@@ -19,6 +19,15 @@ void *memcpy(void *to, const void *from, size_t count)
     return to;
 }
 
+void *memmove(void *to, const void *from, size_t count)
+{
+    uint8_t *t = to;
+    const uint8_t *f = from;
+    if (t <= f) return memcpy(to, from, count);
+    while (count--) t[count] = f[count];
+    return to;
+}
+
 void *memset(void *to, int byte, size_t count)
 {
     uint8_t *t = to;

@@ -116,11 +116,11 @@ void random_call(struct call *call, uint64_t *state, const struct bench *bench)
                                   NEXT_FRAME, NEXT_FRAME, NEXT_FRAME, SET_UP, SET_UP};
     uint32_t r = below(state, 2000);
     memset(call, 0, sizeof *call);
-    call->kind = r == 0 ? FRESH : r < 8 ? WILD : r < 16 ? DUE : r < 100 ? NUMBERS : r < 160 ? COUNT : PICK(state, mix);
-    call->form = below(state, 4) ? LENT : BY_VALUE;
+    call->kind = r == 0 || r >= 1990 ? FRESH : r < 8 ? WILD : r < 16 ? DUE : r < 100 ? NUMBERS : r < 160 ? COUNT : PICK(state, mix);
+    call->form = r >= 1990 || below(state, 3) ? LENT : BY_VALUE;
     call->node = (uint8_t)below(state, NODES);
     call->node_length = lent_length(state);
-    if (call->kind == FRESH && below(state, 2)) call->node_length = (uint16_t)(KOSMYDORE_NODE_BYTES - 1 + below(state, 3));
+    if (r >= 1990) call->node_length = (uint16_t)(KOSMYDORE_NODE_BYTES + (r % 2 ? 1 : -1)); /* is refused */
     call->tally_length = (uint8_t)(below(state, 20) ? KOSMYDORE_TALLY_SIZE : below(state, TALLY_ROOM + 1));
     settings(call, state);
     call->number = call->kind == WILD || call->kind == DUE ? any(state) : stream(state);
