@@ -1,4 +1,4 @@
-/* The functions of forms.rt. */
+/* The functions of forms.source. */
 #ifndef FORMS_H
 #define FORMS_H
 

@@ -1,4 +1,4 @@
-/* The functions of forms.rt in C, against what its text says; the last line counts. */
+/* The functions of forms.source in C, against what its text says; the last line counts. */
 #include <stdio.h>
 #include <string.h>
 
