@@ -5,17 +5,26 @@
 #include <inttypes.h>
 #include <stdio.h>
 
-static int unprinted(const char *format, ...)
+static int no_character(int character)
 {
-    (void)format;
+    return character;
+}
+
+static int no_text(const char *text, FILE *to)
+{
+    (void)text;
+    (void)to;
     return 0;
 }
 
+#undef putchar
 #define main main_loop
-#define printf unprinted
+#define putchar no_character
+#define fputs no_text
 #include "../examples/main_loop.c"
 #undef main
-#undef printf
+#undef putchar
+#undef fputs
 
 static void loop(void)
 {
