@@ -7,3 +7,4 @@ pub mod Unique
 pub mod LentUnique
 pub mod Histories
 pub mod LentHistories
+pub mod LentPromises

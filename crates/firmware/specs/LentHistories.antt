@@ -77,3 +77,7 @@ abbrev pub EveryLentHistory : Type 0
 EveryLentHistory =
     (bytes : List ℕ) → isNode bytes ≡ true → (calls : List Call) (xs : List Seen) (end : Lent) → Run (freshLent bytes) calls xs end
     → Faithful calls xs end
+
+-- and of every list of calls, on every buffer, there is such a run
+abbrev pub SomeLentRun : Type 0
+SomeLentRun = (bytes : List ℕ) (calls : List Call) → (xs : List Seen) × ((end : Lent) × Run (freshLent bytes) calls xs end)
