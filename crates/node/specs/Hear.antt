@@ -11,10 +11,11 @@ use Rattle.wire.specs.Identifiers.{streamOf, codeOf}
 use Rattle.wire.specs.Classes.{carries}
 use Rattle.wire.specs.Frames.{badFrame}
 use Rattle.wire.specs.Delivered.{recordOf}
+use Rattle.wire.specs.Refusals.{Refusals}
 use Rattle.node.specs.declared.slots.Slot.{Slot}
 use Rattle.node.specs.declared.Node.{Node}
 use Rattle.node.specs.Slots.{noMessage, holding, restamped, confirmed, same, abortPending, isReceiver, withParts, withMessage}
-use Rattle.node.specs.Nodes.{slotOf, onSlot, Outcome, Refusals, unlessRefused, done}
+use Rattle.node.specs.Nodes.{slotOf, onSlot, Outcome, unlessRefused, done}
 
 -- a plain frame is delivered at once, so the longest record must fit
 abbrev pub hearRoom : ℕ

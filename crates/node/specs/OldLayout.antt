@@ -11,10 +11,11 @@ use Rattle.wire.specs.declared.settings.Settings.{Settings}
 use Rattle.wire.specs.declared.reply.Reply.the-variants.{Done, ShortOutput, Nothing}
 use Rattle.wire.specs.Identifiers.{maxStream, streamOf, codeOf}
 use Rattle.wire.specs.Settings.{isPlain}
+use Rattle.wire.specs.Refusals.{Refusals}
 use Rattle.node.specs.declared.slots.Slot.{Slot}
 use Rattle.node.specs.declared.Node.{Node}
 use Rattle.node.specs.Slots.{slotFor, isFree, onFirst}
-use Rattle.node.specs.Nodes.{withSlots, slotOf, onSlot, Outcome, Refusals, unlessRefused, done}
+use Rattle.node.specs.Nodes.{withSlots, slotOf, onSlot, Outcome, unlessRefused, done}
 use Rattle.node.specs.Clock.{Clock}
 use Rattle.node.specs.SetUp.{setUpRefusals}
 use Rattle.node.specs.Hear

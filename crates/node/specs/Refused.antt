@@ -14,9 +14,10 @@ use Rattle.wire.specs.declared.reply.Reply.the-variants.{Done, BadSettings, Tab
 use Rattle.wire.specs.declared.reply.Reply.the-variants.{Clash, Busy, NotSender, BadLength, ShortOutput, Nothing}
 use Rattle.wire.specs.Delivered.{over}
 use Rattle.wire.specs.Settings.{ofPlain}
+use Rattle.wire.specs.Refusals.{Refusals}
 use Rattle.node.specs.declared.slots.Slot.{Slot}
 use Rattle.node.specs.declared.Node.{Node}
-use Rattle.node.specs.Nodes.{slotCount, Outcome, Refusals}
+use Rattle.node.specs.Nodes.{slotCount, Outcome}
 use Rattle.node.specs.Clock.{Clock}
 use Rattle.node.specs.Calls.{Call, outcome, after}
 use Rattle.node.specs.SetUp.{setUpRefusals}

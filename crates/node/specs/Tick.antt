@@ -8,10 +8,11 @@ use Rattle.wire.specs.declared.reply.Reply.the-variants.{ShortOutput}
 use Rattle.wire.specs.declared.settings.Settings.{Settings}
 use Rattle.wire.specs.Settings.{isImd, isTwoMessage}
 use Rattle.wire.specs.Delivered.{recordOf}
+use Rattle.wire.specs.Refusals.{Refusals}
 use Rattle.node.specs.declared.slots.Slot.{Slot}
 use Rattle.node.specs.declared.Node.{Node}
 use Rattle.node.specs.Slots.{noMessage, released, payloadOf, abortPending, isReceiver, isSender, withParts, withMessage}
-use Rattle.node.specs.Nodes.{Outcome, Refusals, unlessRefused, done}
+use Rattle.node.specs.Nodes.{Outcome, unlessRefused, done}
 use Rattle.node.specs.Clock.{Clock}
 
 -- every slot may deliver, each a record of at most 16 bytes

@@ -9,6 +9,7 @@ use lib.ListN.{length, getD, set}
 use lib.Seq.{set-set, getD-set-same}
 use Rattle.wire.specs.declared.reply.Reply.the-variants.{Done, BadLength, ShortOutput}
 use Rattle.wire.specs.Frames.{maxPayload}
+use Rattle.wire.proofs.Refusing.{here}
 use Rattle.node.specs.declared.slots.Message.{Message}
 use Rattle.node.specs.declared.slots.Pending.{Pending}
 use Rattle.node.specs.declared.slots.Slot.{Slot}
@@ -19,7 +20,6 @@ use Rattle.node.specs.Clock.{rolled}
 use Rattle.node.specs.Tick.{tickRoom, due, lapsed, ageOf, dueSlots, recordsFrom, ticked, tick}
 use Rattle.node.specs.Stirring.{mayStir}
 use Rattle.node.specs.Calls.{Call}
-use Rattle.node.proofs.Cases.{here}
 use Rattle.node.proofs.tick.Cases.{tick-cases}
 use Rattle.node.proofs.tick.Stirring.{Still, still-stays, young-is-still}
 use Rattle.node.proofs.tick.OnePass.{Lapsing, lapsing-at-first, all-lapsed, slot-as-it-was, one-stays, one-lapses}

@@ -16,6 +16,7 @@ use Rattle.wire.proofs.Frames.{frame-bounds, frame-length}
 use Rattle.wire.proofs.LegalSettings.{legal-tells}
 use Rattle.wire.proofs.Reading.{messages-back}
 use Rattle.wire.proofs.Records.{record-length}
+use Rattle.wire.proofs.Refusing.{Refuses}
 use Rattle.node.specs.declared.slots.Slot.{Slot}
 use Rattle.node.specs.Slots.{payloadOf}
 use Rattle.node.specs.Nodes.{slotOf, Outcome}
@@ -23,7 +24,7 @@ use Rattle.node.specs.Hear.{deliveredAtOnce, hearRefusals}
 use Rattle.node.specs.Tick.{due, ageOf, dueSlots, recordsFrom, tick}
 use Rattle.node.specs.Clock.{Clock, unbounded}
 use Rattle.node.specs.Reachable.{KeptSlot, All}
-use Rattle.node.proofs.Cases.{Refuses, by-case}
+use Rattle.node.proofs.Cases.{by-case}
 use Rattle.node.proofs.slots.Table.{all-weaken}
 use Rattle.node.proofs.hear.Cases.{hear-cases}
 use Rattle.node.proofs.tick.Cases.{tick-cases}

@@ -7,7 +7,8 @@ use Rattle.wire.proofs.delivered.record_at.Reads as record-at
 use Rattle.wire.proofs.delivered.record_length.Reads as record-length
 use Rattle.wire.proofs.delivered.write_record.Reads as write-record
 use Rattle.wire.proofs.frame.at_most_payload.Reads as at-most-payload
-use Rattle.wire.proofs.frame.bad_frame.Reads as bad-frame
+use Rattle.wire.proofs.ids.BusId.is_bare.Reads as is-bare
+use Rattle.wire.proofs.frame.frame_reply.Reads as frame-reply
 use Rattle.wire.proofs.ids.BusId.split.Reads as split
 use Rattle.wire.proofs.ids.Stream.join.Reads as join
 use Rattle.wire.proofs.reply.Reply.number.Reads as number
@@ -40,8 +41,11 @@ record-at-unique l input a b s t = same
 pub at-most-payload-unique : OneAnswer at-most-payload.Post
 at-most-payload-unique l input a b s t = same
 
-pub bad-frame-unique : OneAnswer bad-frame.Post
-bad-frame-unique l input a b s t = same
+pub is-bare-unique : OneAnswer is-bare.Post
+is-bare-unique l input a b s t = same
+
+pub frame-reply-unique : OneAnswer frame-reply.Post
+frame-reply-unique l input a b s t = same
 
 pub split-unique : OneAnswer split.Post
 split-unique l input a b s t = same

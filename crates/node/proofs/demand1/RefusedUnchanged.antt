@@ -2,8 +2,9 @@
 use mathlib.Core.Path.{_≡_, refl}
 use mathlib.Core.Logic.{_≢_}
 use Rattle.wire.specs.declared.reply.Reply.the-variants.{Done}
+use Rattle.wire.specs.Refusals.{Refusals}
 use Rattle.node.specs.declared.Node.{Node}
-use Rattle.node.specs.Nodes.{Outcome, Refusals}
+use Rattle.node.specs.Nodes.{Outcome}
 use Rattle.node.specs.Calls.{Call}
 use Rattle.node.specs.NextFrame.{give}
 use Rattle.node.specs.Refused.{Unchanged, RefusedUnchanged}

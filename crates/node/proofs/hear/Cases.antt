@@ -9,12 +9,13 @@ use Rattle.wire.specs.declared.ids.BusId.{BusId}
 use Rattle.wire.specs.Identifiers.{streamOf, codeOf}
 use Rattle.wire.specs.Classes.{carries}
 use Rattle.wire.specs.Frames.{badFrame}
+use Rattle.wire.proofs.Refusing.{Passes}
 use Rattle.node.specs.declared.slots.Slot.{Slot}
 use Rattle.node.specs.declared.Node.{Node}
 use Rattle.node.specs.Slots.{isReceiver}
 use Rattle.node.specs.Nodes.{slotOf, onSlot, Outcome, done}
 use Rattle.node.specs.Hear.{hearRoom, clashes, heardBy, deliveredAtOnce, hearRefusals, hear}
-use Rattle.node.proofs.Cases.{Passes, Cases, cases}
+use Rattle.node.proofs.Cases.{Cases, cases}
 
 -- the slot takes the frame
 abbrev pub takes : BusId → (dlc : ℕ) → (payload : List ℕ) → Slot → Bool

@@ -16,14 +16,15 @@ use Rattle.wire.specs.Identifiers.{maxBusId, streamOf, codeOf, split}
 use Rattle.wire.specs.Replies.{numberOf}
 use Rattle.wire.specs.Frames.{maxPayload, badFrame}
 use Rattle.wire.specs.Delivered.{recordOf, fitting}
+use Rattle.wire.specs.Refusals.{Refusals, replyOf}
+use Rattle.wire.proofs.Refusing.{Refuses, here, later, reply-refuses, reply-passes}
 use Rattle.node.specs.declared.slots.Slot.{Slot}
 use Rattle.node.specs.declared.Node.{Node}
 use Rattle.node.specs.Slots.{empty, isOf}
-use Rattle.node.specs.Nodes.{slotOf, withSlots, refused, Refusals, replyOf, done}
+use Rattle.node.specs.Nodes.{slotOf, withSlots, refused, done}
 use Rattle.node.specs.Hear.{hearRoom, heardBy, plainRecord, deliveredAtOnce, slotHearRefusals, hearRefusals, hear}
 use Rattle.wire.proofs.Frames.{frame-bounds, frame-length}
 use Rattle.wire.proofs.Records.{cut-length, does-fit}
-use Rattle.node.proofs.Cases.{Refuses, here, later, reply-refuses, reply-passes}
 use Rattle.node.proofs.hear.Cases.{hear-facts, hear-cases}
 use Rattle.node.proofs.slots.Finding.{indexOf, slot-found, slot-stored, slot-missed}
 

@@ -9,10 +9,11 @@ use Rattle.wire.specs.declared.ids.BusId.{BusId}
 use Rattle.wire.specs.declared.settings.Settings.{Settings}
 use Rattle.wire.specs.Identifiers.{streamOf, codeOf}
 use Rattle.wire.proofs.Frames.{frame-length}
+use Rattle.wire.specs.Refusals.{Refusals}
 use Rattle.node.specs.declared.slots.Slot.{Slot}
 use Rattle.node.specs.declared.Node.{Node}
 use Rattle.node.specs.Slots.{slotFor, empty, isOf, first, onFirst}
-use Rattle.node.specs.Nodes.{fresh, slotCount, slotOf, withSlots, Outcome, Refusals}
+use Rattle.node.specs.Nodes.{fresh, slotCount, slotOf, withSlots, Outcome}
 use Rattle.node.specs.Clock.{unbounded}
 use Rattle.node.specs.SetUp.{setUp}
 use Rattle.node.specs.Hear.{hear, heardBy}

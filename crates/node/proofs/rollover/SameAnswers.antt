@@ -10,11 +10,12 @@ use Rattle.wire.specs.declared.ids.BusId.{BusId}
 use Rattle.wire.specs.declared.settings.Settings.{Settings}
 use Rattle.wire.specs.Identifiers.{streamOf, codeOf}
 use Rattle.wire.specs.Settings.{sends, isPlain, isTwoMessage, maxDataReach, maxDeliverDelay}
+use Rattle.wire.specs.Refusals.{Refusals}
 use Rattle.node.specs.declared.slots.Message.{Message}
 use Rattle.node.specs.declared.slots.Slot.{Slot}
 use Rattle.node.specs.declared.Node.{Node}
 use Rattle.node.specs.Slots.{restamped, toSend, slotFor, isOf, isFree, isReceiver, isSender, withParts, withMessage}
-use Rattle.node.specs.Nodes.{fresh, slotOf, onSlot, Outcome, Refusals, unlessRefused, done}
+use Rattle.node.specs.Nodes.{fresh, slotOf, onSlot, Outcome, unlessRefused, done}
 use Rattle.node.specs.Clock.{period, unbounded, rolled}
 use Rattle.node.specs.SetUp.{setUpRefusals, lessFree, inPlace, setUp}
 use Rattle.node.specs.Hear.{heardBy, deliveredAtOnce, hearRefusals, hear}

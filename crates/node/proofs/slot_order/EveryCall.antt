@@ -7,10 +7,12 @@ use Rattle.wire.specs.declared.ids.Stream.{Stream}
 use Rattle.wire.specs.declared.ids.BusId.{BusId}
 use Rattle.wire.specs.declared.settings.Settings.{Settings}
 use Rattle.wire.specs.Identifiers.{streamOf, codeOf}
+use Rattle.wire.specs.Refusals.{Refusals}
+use Rattle.wire.proofs.Refusing.{Passes}
 use Rattle.node.specs.declared.slots.Slot.{Slot}
 use Rattle.node.specs.declared.Node.{Node}
 use Rattle.node.specs.Slots.{empty, slotFor, isFree, isOf}
-use Rattle.node.specs.Nodes.{fresh, slotCount, slotOf, withSlots, onSlot, Outcome, Refusals, unlessRefused, refused, done}
+use Rattle.node.specs.Nodes.{fresh, slotCount, slotOf, withSlots, onSlot, Outcome, unlessRefused, refused, done}
 use Rattle.node.specs.Clock.{Clock}
 use Rattle.node.specs.SetUp.{setUpRefusals}
 use Rattle.node.specs.Hear.{heardBy, deliveredAtOnce, hearRefusals, hear}
@@ -20,7 +22,6 @@ use Rattle.node.specs.NextFrame.{givenOut}
 use Rattle.node.specs.Calls.{Call, outcome, afterFrom, Answer, answerOf, answersFrom}
 use Rattle.node.specs.OldLayout.{Layout, firstFree, setUpIn, dueByStream, tickByStream, pendingIds, giveById, nextById, outcomeIn}
 use Rattle.node.specs.SlotOrder.{Settled, SameSlots, SameOutcome, Fills, LayoutUnseen, afterBy, answersBy}
-use Rattle.node.proofs.Cases.{Passes}
 use Rattle.node.proofs.set_up.Cases.{SetUpFacts, set-up-facts}
 use Rattle.node.proofs.slots.Table.{all-replicate}
 use Rattle.node.proofs.slots.Streams.{KeepsKind, heard-keeps, requested-keeps, given-out-keeps, distinct-fresh}

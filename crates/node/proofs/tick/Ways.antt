@@ -6,13 +6,13 @@ use borrow.Author.Tests.{lt-ltb}
 use lib.ListN.{length}
 use Rattle.wire.specs.declared.reply.Reply.the-variants.{Done, ShortOutput}
 use Rattle.wire.specs.Delivered.{over}
+use Rattle.wire.proofs.Refusing.{here}
 use Rattle.node.specs.declared.Node.{Node}
 use Rattle.node.specs.declared.Delivered.{Delivered}
 use Rattle.node.specs.Nodes.{done, asDelivered}
 use Rattle.node.specs.Clock.{Clock, rolled}
 use Rattle.node.specs.Tick.{tickRoom, tickSlot, dueSlots, recordsFrom, ticked, tick}
 use Rattle.node.specs.Calls.{Call}
-use Rattle.node.proofs.Cases.{here}
 use Rattle.node.proofs.tick.Cases.{tick-cases}
 use Rattle.node.proofs.rollover.Promises.{PromisedWritten, promised-exact}
 

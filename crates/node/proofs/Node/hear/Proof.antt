@@ -13,10 +13,11 @@ use Rattle.wire.specs.declared.ids.Parts.{Parts}
 use Rattle.wire.specs.declared.reply.Reply.the-variants.{Done}
 use Rattle.wire.specs.Identifiers.{streamOf, codeOf}
 use Rattle.wire.specs.Frames.{badFrame}
+use Rattle.wire.specs.Refusals.{replyOf}
 use Rattle.node.specs.declared.slots.Slot.{Slot}
 use Rattle.node.specs.declared.Node.{Node}
 use Rattle.node.specs.Slots.{isOf}
-use Rattle.node.specs.Nodes.{replyOf, asDelivered}
+use Rattle.node.specs.Nodes.{asDelivered}
 use Rattle.node.specs.Hear.{hearRoom, deliveredAtOnce, slotHearRefusals}
 use Rattle.node.specs.Calls.{Call}
 use Rattle.node.proofs.slots.Finding.{noSlot, length-of-mapped, indexOf, NoneBefore, none-at-first, not-here, search-ends}

@@ -13,10 +13,11 @@ use Rattle.wire.specs.declared.ids.Parts.{Parts}
 use Rattle.wire.specs.declared.reply.Reply.the-variants.{Done, BadLength, BadFrame, NotMine, ShortOutput}
 use Rattle.wire.specs.Identifiers.{streamOf, codeOf}
 use Rattle.wire.specs.Frames.{maxPayload, badFrame}
+use Rattle.wire.specs.Refusals.{replyOf}
 use Rattle.node.specs.declared.slots.Slot.{Slot}
 use Rattle.node.specs.declared.Node.{Node}
 use Rattle.node.specs.Slots.{empty, isOf}
-use Rattle.node.specs.Nodes.{replyOf, asAnswered}
+use Rattle.node.specs.Nodes.{asAnswered}
 use Rattle.node.specs.Hear.{hearRoom, heardBy, deliveredAtOnce, slotHearRefusals}
 use Rattle.node.specs.Calls.{Call}
 use Rattle.node.proofs.slots.Finding.{indexOf}
