@@ -1,15 +1,15 @@
--- Hearing a frame: the replies ShortOutput, BadFrame, NotMine, Misfit, Clash, in this order.
+-- Hearing a frame: the replies ShortOutput, those of what is no frame, NotMine, Misfit, Clash, in this order.
 use Prim.Native.Nat.{ℕ}
 use mathlib.Core.Bool.{Bool, cond, not, _&&_}
-use mathlib.Core.List.{List, [], _∷_}
+use mathlib.Core.List.{List, [], _∷_, _++_}
 use lib.ListN.{length}
 use lib.Dec.{eqb, ltb}
 use Rattle.wire.specs.declared.ids.Stream.{Stream}
 use Rattle.wire.specs.declared.ids.BusId.{BusId}
-use Rattle.wire.specs.declared.reply.Reply.the-variants.{BadFrame, NotMine, Misfit, Clash, ShortOutput}
+use Rattle.wire.specs.declared.reply.Reply.the-variants.{NotMine, Misfit, Clash, ShortOutput}
 use Rattle.wire.specs.Identifiers.{streamOf, codeOf}
 use Rattle.wire.specs.Classes.{carries}
-use Rattle.wire.specs.Frames.{badFrame}
+use Rattle.wire.specs.Frames.{isBare, frameRefusals}
 use Rattle.wire.specs.Delivered.{recordOf}
 use Rattle.wire.specs.Refusals.{Refusals}
 use Rattle.node.specs.declared.slots.Slot.{Slot}
@@ -63,8 +63,8 @@ slotHearRefusals code payload x =
 abbrev pub hearRefusals : BusId → (dlc : ℕ) → (payload output : List ℕ) → Slot → Refusals
 hearRefusals id dlc payload output x =
     (ShortOutput, ltb (length output) hearRoom)
-    ∷ (BadFrame, badFrame id dlc (length payload))
-    ∷ slotHearRefusals (codeOf id) payload x
+    ∷ frameRefusals (isBare id) id dlc (length payload)
+    ++ slotHearRefusals (codeOf id) payload x
 
 unfoldable pub hear : BusId → (dlc : ℕ) → (payload output : List ℕ) → Node → Outcome
 hear id dlc payload output n =

@@ -10,8 +10,9 @@ use Rattle.wire.specs.declared.ids.Stream.{Stream}
 use Rattle.wire.specs.declared.ids.BusId.{BusId}
 use Rattle.wire.specs.declared.settings.Settings.{Settings}
 use Rattle.wire.specs.declared.reply.Reply.{Reply}
-use Rattle.wire.specs.declared.reply.Reply.the-variants.{Done, BadSettings, TableFull, Taken, BadFrame, NotMine, Misfit}
+use Rattle.wire.specs.declared.reply.Reply.the-variants.{Done, BadSettings, TableFull, Taken, NotMine, Misfit}
 use Rattle.wire.specs.declared.reply.Reply.the-variants.{Clash, Busy, NotSender, BadLength, ShortOutput, Nothing}
+use Rattle.wire.specs.declared.reply.Reply.the-variants.{IdentifierTooBig, DlcTooBig, PayloadLength, UnwantedPayload}
 use Rattle.wire.specs.Delivered.{over}
 use Rattle.wire.specs.Settings.{ofPlain}
 use Rattle.wire.specs.Refusals.{Refusals}
@@ -83,7 +84,10 @@ setUpRows =
 abbrev pub hearRows : List Row
 hearRows =
     row (receiver ∷ []) (hear 20 2 (10 ∷ 11 ∷ []) (replicate 15 0)) ShortOutput ∷
-    row (receiver ∷ []) (hear 20 3 (10 ∷ 11 ∷ []) (replicate hearRoom 0)) BadFrame ∷
+    row (receiver ∷ []) (hear 536870912 2 (10 ∷ 11 ∷ []) (replicate hearRoom 0)) IdentifierTooBig ∷
+    row (receiver ∷ []) (hear 20 16 (replicate 8 0) (replicate hearRoom 0)) DlcTooBig ∷
+    row (receiver ∷ []) (hear 20 3 (10 ∷ 11 ∷ []) (replicate hearRoom 0)) PayloadLength ∷
+    row (receiver ∷ []) (hear 21 2 (10 ∷ 11 ∷ []) (replicate hearRoom 0)) UnwantedPayload ∷
     row [] data₅ NotMine ∷
     row (receiver ∷ []) (hear 23 2 (10 ∷ 11 ∷ []) (replicate hearRoom 0)) Misfit ∷
     row (receiver ∷ data₅ ∷ []) (hear 20 2 (10 ∷ 12 ∷ []) (replicate hearRoom 0)) Clash ∷

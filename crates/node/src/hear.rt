@@ -5,7 +5,7 @@ use crate::slots::Message;
 use crate::slots::Slot;
 use wire::class::carries;
 use wire::delivered::write_record;
-use wire::frame::bad_frame;
+use wire::frame::frame_reply;
 use wire::ids::BusId;
 use wire::ids::Stream;
 use wire::reply::Reply;
@@ -132,10 +132,11 @@ impl Node {
                 written: 0,
             };
         }
-        if bad_frame(id, dlc, payload) {
+        let fault = frame_reply(id.is_bare(), id, dlc, payload);
+        if fault.number() != 0 {
             return Delivered {
                 node: self,
-                reply: Reply::BadFrame,
+                reply: fault,
                 written: 0,
             };
         }

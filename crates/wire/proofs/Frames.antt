@@ -1,5 +1,5 @@
 -- What the reply of the frame test tells, each way; and what a frame has, which is what has none of the faults.
-use mathlib.Core.Path.{_≡_, refl, sym, _∙_}
+use mathlib.Core.Path.{_≡_, refl, sym, subst, _∙_}
 use mathlib.Core.Bool.{Bool, true, false, not, _&&_, true≢false}
 use mathlib.Core.List.{[], _∷_}
 use Prim.Native.Nat.{ℕ, zero, suc, _≤_, _<_}
@@ -85,3 +85,8 @@ none-or-both (suc dlc) (suc other) e = ne-eqb (suc dlc) 0 (λ z. omega arith) �
 pub equal-dlcs : (bare : Bool) (id : BusId) (dlc other length : ℕ) → dlc ≤ maxDlc → other ≤ maxDlc → bytesOfDlc dlc ≡ bytesOfDlc other
     → frameRefusals bare id dlc length ≡ frameRefusals bare id other length
 equal-dlcs bare id dlc other length low low-too e = rw (le-ltb maxDlc dlc low, le-ltb maxDlc other low-too, e, none-or-both dlc other e)
+
+pub equal-frames : (bare : Bool) (id : BusId) (dlc other length : ℕ) → IsFrame bare id dlc length → other ≤ maxDlc → bytesOfDlc dlc ≡ bytesOfDlc other
+    → IsFrame bare id other length
+equal-frames bare id dlc other length f low e =
+    frame-bounds bare id other length (subst Passes (equal-dlcs bare id dlc other length (f .low-dlc) low e) (frame-passes bare id dlc length f))

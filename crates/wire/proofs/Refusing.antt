@@ -73,3 +73,7 @@ among (later e why) rest = later e (among why rest)
 pub past : (tests : Refusals) → Passes tests → {rest : Refusals} {r : Reply} → Refuses rest r → Refuses (tests ++ rest) r
 past [] p why = why
 past ((q, t) ∷ tests) p why = later (p .0) (past tests (p .1) why)
+
+pub both-pass : (tests rest : Refusals) → Passes tests → Passes rest → Passes (tests ++ rest)
+both-pass [] rest p q = q
+both-pass ((r, t) ∷ tests) rest p q = (p .0, both-pass tests rest (p .1) q)
