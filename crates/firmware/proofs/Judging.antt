@@ -23,24 +23,26 @@ use Rattle.firmware.specs.declared.judged.SettingsC.{SettingsC}
 use Rattle.firmware.specs.Judged.{dlcOf, inNumbers, refusedSettings, settingsOf}
 
 -- ── DLCs ──
--- above the highest none is a frame's
-no-frame : (id : BusId) (dlc length : ℕ) → maxDlc < dlc → badFrame id dlc length ≡ true
-no-frame id dlc length h = bad-frame-tells id dlc length .back (high-dlc h)
+-- above the highest none is a frame's, and any is answered alike
+high-answer : BusId → Reply
+high-answer id = cond (ltb maxBusId (id .0)) IdentifierTooBig DlcTooBig
 
-same-frame : (id : BusId) (dlc length : ℕ) → badFrame id (dlcOf dlc) length ≡ badFrame id dlc length
-same-frame id dlc length = go (ltb maxDlc dlc) refl
+high-heard : (id : BusId) (dlc : ℕ) (payload output : List ℕ) (n : Node) → maxDlc < dlc
+    → hear id dlc payload output n ≡ unlessRefused n ((ShortOutput, ltb (length output) hearRoom) ∷ (high-answer id, true) ∷ []) (refused n Done)
+unfolding hear
+high-heard id dlc payload output n high = rw (lt-ltb maxDlc dlc high) (go (ltb maxBusId (id .0)))
+
+pub heard-so : (id : BusId) (dlc : ℕ) (payload output : List ℕ) (n : Node) → hear id (dlcOf dlc) payload output n ≡ hear id dlc payload output n
+heard-so id dlc payload output n = go (ltb maxDlc dlc) refl
   where
-    go : (b : Bool) → ltb maxDlc dlc ≡ b → badFrame id (dlcOf dlc) length ≡ badFrame id dlc length
+    go : (b : Bool) → ltb maxDlc dlc ≡ b → hear id (dlcOf dlc) payload output n ≡ hear id dlc payload output n
     go true e =
-        let high = ltb-true maxDlc dlc e in no-frame id (dlcOf dlc) length (omega arith) ∙ sym (no-frame id dlc length high)
+        let high = ltb-true maxDlc dlc e in
+        high-heard id (dlcOf dlc) payload output n (omega arith) ∙ sym (high-heard id dlc payload output n high)
     go false e =
         let low = ltb-false maxDlc dlc e in
         let same : dlcOf dlc ≡ dlc = omega arith in
-        ap (λ (d : ℕ). badFrame id d length) same
-
-pub heard-so : (id : BusId) (dlc : ℕ) (payload output : List ℕ) (n : Node) → hear id (dlcOf dlc) payload output n ≡ hear id dlc payload output n
-unfolding hear
-heard-so id dlc payload output n = rw (same-frame id dlc (length payload))
+        ap (λ (d : ℕ). hear id d payload output n) same
 
 -- ── settings ──
 pub record FitSettings (s : Settings) : Type 0 where

@@ -10,10 +10,12 @@ pub struct Tally {
 
 impl Tally {
     // How many numbers are counted.
-    pub const SIZE: usize = 13;
+    pub const SIZE: usize = 17;
 
     // The numbers that are counted, in the tally's order.
-    pub const NUMBERS: [u32; Tally::SIZE] = [0, 1, 2, 3, 4, 5, 6, 7, 8, 9, 10, 11, 12];
+    pub const NUMBERS: [u32; Tally::SIZE] = [
+        0, 1, 2, 3, 4, 5, 6, 7, 8, 9, 10, 11, 12, 18, 19, 20, 21,
+    ];
 
     pub const ZERO: Tally = Tally {
         counts: [0; Tally::SIZE],

@@ -7,7 +7,7 @@ use crate::slots::put_slot;
 use crate::slots::slot_at;
 use node::Node;
 use node::hear::deliver_plain;
-use wire::frame::bad_frame;
+use wire::frame::frame_reply;
 use wire::ids::BusId;
 use wire::reply::Reply;
 ghost use mathlib.Core.Path.{_≡_};
@@ -34,9 +34,10 @@ pub fn hear(bytes: &mut [u8], id: BusId, dlc: u8, payload: &[u8], out: &mut [u8]
             written: 0,
         };
     }
-    if bad_frame(id, dlc, payload) {
+    let fault = frame_reply(id.is_bare(), id, dlc, payload);
+    if fault.number() != 0 {
         return Written {
-            reply: Reply::BadFrame,
+            reply: fault,
             written: 0,
         };
     }

@@ -12,7 +12,8 @@ use Rattle.wire.specs.Identifiers.{maxBusId, streamOf, codeOf}
 use Rattle.wire.specs.Frames.{maxPayload}
 use Rattle.wire.specs.Replies.{numberOf}
 use Rattle.wire.specs.Delivered.{recordOf, recordsOf, Writable, no-message, one-more}
-use Rattle.wire.proofs.Frames.{frame-bounds, frame-length}
+use Rattle.wire.specs.Frames.{isBare}
+use Rattle.wire.proofs.Frames.{frame-length}
 use Rattle.wire.proofs.LegalSettings.{legal-tells}
 use Rattle.wire.proofs.Reading.{messages-back}
 use Rattle.wire.proofs.Records.{record-length}
@@ -90,7 +91,7 @@ plain-is-delivered n id dlc payload =
     (λ (o : Outcome). deliveredBy o ≡ cond (eqb (numberOf (o .reply)) 0 && eqb (codeOf id) 3) (deliveredAt (n .counter) (streamOf id, payload) ∷ []) [])
     refused
     (λ facts.
-    taken (frame-bounds id dlc (length payload) (facts .good) .identifier) (frame-length id dlc (length payload) (facts .good)) (eqb (codeOf id) 3))
+    taken (facts .good .identifier) (frame-length (isBare id) id dlc (length payload) (facts .good)) (eqb (codeOf id) 3))
     (hear-cases id dlc payload room n .case)
   where
     only : Bool → List Delivery

@@ -8,6 +8,7 @@ use mathlib.Core.List.{List, [], _∷_, map}
 use lib.ListN.{length}
 use lib.Dec.{T, eqb, eqb→eq}
 use Rattle.wire.specs.declared.ids.Stream.{Stream}
+use Rattle.wire.specs.declared.ids.BusId.{BusId}
 use Rattle.wire.specs.declared.settings.Settings.{Settings}
 use Rattle.node.specs.declared.slots.Slot.{Slot}
 use Rattle.node.specs.declared.Node.{Node}
@@ -15,6 +16,7 @@ use Rattle.wire.specs.Classes.{carries}
 use Rattle.wire.specs.Frames.{maxPayload, isBare}
 use Rattle.wire.specs.Identifiers.{idOf, streamOf, codeOf, maxStream}
 use Rattle.wire.specs.Settings.{receives, isPlain}
+use Rattle.wire.specs.Tells.{equal, _or_}
 use Rattle.node.specs.Clock.{unbounded}
 use Rattle.node.specs.Hear.{clashes, heardBy}
 use Rattle.node.specs.NextFrame.{payloadFor}
