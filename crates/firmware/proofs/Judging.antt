@@ -7,30 +7,32 @@ use Prim.Native.Nat.{ℕ, _≤_, _<_}
 use native.Mathlib.Omega.{arith}
 use lib.ListN.{length}
 use lib.Dec.{leb, ltb}
-use borrow.Author.Tests.{ltb-true, ltb-false}
+use borrow.Author.Tests.{lt-ltb, ltb-true, ltb-false}
 use Rattle.wire.specs.declared.ids.Stream.{Stream}
 use Rattle.wire.specs.declared.ids.BusId.{BusId}
 use Rattle.wire.specs.declared.settings.Settings.{Settings}
-use Rattle.wire.specs.Identifiers.{maxStream}
-use Rattle.wire.specs.Frames.{maxDlc, badFrame, high-dlc}
+use Rattle.wire.specs.declared.reply.Reply.the-variants.{ShortOutput, IdentifierTooBig, DlcTooBig}
+use Rattle.wire.specs.Identifiers.{maxStream, maxBusId}
+use Rattle.wire.specs.Frames.{maxDlc}
 use Rattle.wire.specs.Settings.{legal, PlainNumbers, ImdNumbers, TwoMessageNumbers}
-use Rattle.wire.proofs.Frames.{bad-frame-tells}
 use Rattle.wire.proofs.LegalSettings.{legal-tells}
 use Rattle.node.specs.declared.Node.{Node}
-use Rattle.node.specs.Hear.{hear}
+use Rattle.node.specs.Nodes.{Outcome, refused}
+use Rattle.node.specs.Hear.{hearRoom, hear}
 use Rattle.node.specs.SetUp.{setUp}
 use Rattle.firmware.specs.declared.judged.SettingsC.{SettingsC}
 use Rattle.firmware.specs.Judged.{dlcOf, inNumbers, refusedSettings, settingsOf}
 
 -- ── DLCs ──
--- above the highest none is a frame's, and any is answered alike
-high-answer : BusId → Reply
-high-answer id = cond (ltb maxBusId (id .0)) IdentifierTooBig DlcTooBig
+-- above the highest none is a frame's, and each is answered alike
+module _ (id : BusId) (payload output : List ℕ) (n : Node) where
+  abbrev highAnswer : Outcome
+  highAnswer =
+      cond (ltb (length output) hearRoom) (refused n ShortOutput) (cond (ltb maxBusId (id .0)) (refused n IdentifierTooBig) (refused n DlcTooBig))
 
-high-heard : (id : BusId) (dlc : ℕ) (payload output : List ℕ) (n : Node) → maxDlc < dlc
-    → hear id dlc payload output n ≡ unlessRefused n ((ShortOutput, ltb (length output) hearRoom) ∷ (high-answer id, true) ∷ []) (refused n Done)
-unfolding hear
-high-heard id dlc payload output n high = rw (lt-ltb maxDlc dlc high) (go (ltb maxBusId (id .0)))
+  high-heard : (dlc : ℕ) → maxDlc < dlc → hear id dlc payload output n ≡ highAnswer
+  unfolding hear
+  high-heard dlc high = rw (lt-ltb maxDlc dlc high)
 
 pub heard-so : (id : BusId) (dlc : ℕ) (payload output : List ℕ) (n : Node) → hear id (dlcOf dlc) payload output n ≡ hear id dlc payload output n
 heard-so id dlc payload output n = go (ltb maxDlc dlc) refl
@@ -38,7 +40,7 @@ heard-so id dlc payload output n = go (ltb maxDlc dlc) refl
     go : (b : Bool) → ltb maxDlc dlc ≡ b → hear id (dlcOf dlc) payload output n ≡ hear id dlc payload output n
     go true e =
         let high = ltb-true maxDlc dlc e in
-        high-heard id (dlcOf dlc) payload output n (omega arith) ∙ sym (high-heard id dlc payload output n high)
+        high-heard id payload output n (dlcOf dlc) (omega arith) ∙ sym (high-heard id payload output n dlc high)
     go false e =
         let low = ltb-false maxDlc dlc e in
         let same : dlcOf dlc ≡ dlc = omega arith in
