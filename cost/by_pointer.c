@@ -12,13 +12,15 @@ struct delivered hear(struct node *node, uint32_t id, uint8_t dlc, const uint8_t
     uint32_t stream = id / 4;
     uint32_t code = id % 4;
     struct slot *slot;
+    enum reply reply;
     size_t i;
 
     if (room < 16) {
         return (struct delivered){SHORT_OUTPUT, 0};
     }
-    if (bad_frame(id, dlc, len)) {
-        return (struct delivered){BAD_FRAME, 0};
+    reply = fault_in(id, dlc, len);
+    if (reply != DONE) {
+        return (struct delivered){reply, 0};
     }
     i = find(node, stream);
     if (i == SLOTS || node->slots[i].settings.role != RECEIVE) {

@@ -20,8 +20,9 @@ struct delivered hear(struct node node, uint32_t id, uint8_t dlc, const uint8_t 
     if (room < 16) {
         return (struct delivered){node, SHORT_OUTPUT, 0};
     }
-    if (bad_frame(id, dlc, len)) {
-        return (struct delivered){node, BAD_FRAME, 0};
+    reply = fault_in(id, dlc, len);
+    if (reply != DONE) {
+        return (struct delivered){node, reply, 0};
     }
     i = find(&node, stream);
     if (i == SLOTS || node.slots[i].settings.role != RECEIVE) {

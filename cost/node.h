@@ -25,7 +25,11 @@ enum reply {
     NOT_SENDER,
     BAD_LENGTH,
     SHORT_OUTPUT,
-    NOTHING
+    NOTHING,
+    IDENTIFIER_TOO_BIG = 18,
+    DLC_TOO_BIG,
+    PAYLOAD_LENGTH,
+    UNWANTED_PAYLOAD
 };
 
 enum { RECEIVE, SEND };

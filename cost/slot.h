@@ -85,12 +85,22 @@ static inline size_t write_record(uint8_t *out, uint32_t stream, const uint8_t *
     return 8 + len;
 }
 
-static inline bool bad_frame(uint32_t id, uint8_t dlc, size_t len)
+/* The first fault in a frame; DONE where it has none. */
+static inline enum reply fault_in(uint32_t id, uint8_t dlc, size_t len)
 {
     uint32_t code = id % 4;
     size_t bytes = dlc > 8 ? 8 : dlc;
 
-    return id > MAX_BUS_ID || dlc > 15 || len != bytes || ((code == CODE_CONFIRMATION || code == CODE_ABORT) && dlc != 0);
+    if (id > MAX_BUS_ID) {
+        return IDENTIFIER_TOO_BIG;
+    }
+    if (dlc > 15) {
+        return DLC_TOO_BIG;
+    }
+    if (len != bytes) {
+        return PAYLOAD_LENGTH;
+    }
+    return (code == CODE_CONFIRMATION || code == CODE_ABORT) && dlc != 0 ? UNWANTED_PAYLOAD : DONE;
 }
 
 static inline void hold(struct message *m, uint16_t counter, const uint8_t *payload, size_t len)

@@ -51,13 +51,17 @@ extern "C" {
 #define KOSMYDORE_BAD_LENGTH UINT32_C(10)
 #define KOSMYDORE_SHORT_OUTPUT UINT32_C(11)
 #define KOSMYDORE_NOTHING UINT32_C(12)
+#define KOSMYDORE_IDENTIFIER_TOO_BIG UINT32_C(18)
+#define KOSMYDORE_DLC_TOO_BIG UINT32_C(19)
+#define KOSMYDORE_PAYLOAD_LENGTH UINT32_C(20)
+#define KOSMYDORE_UNWANTED_PAYLOAD UINT32_C(21)
 
 /*
  * A tally: how many replies of the node's calls are counted, and their numbers in the tally's order.
  * Reply numbers need not follow each other without a gap: do not take a number for a place.
  */
-#define KOSMYDORE_TALLY_SIZE 13
-#define KOSMYDORE_TALLY_NUMBERS {0, 1, 2, 3, 4, 5, 6, 7, 8, 9, 10, 11, 12}
+#define KOSMYDORE_TALLY_SIZE 17
+#define KOSMYDORE_TALLY_NUMBERS {0, 1, 2, 3, 4, 5, 6, 7, 8, 9, 10, 11, 12, 18, 19, 20, 21}
 
 /* Roles. */
 #define KOSMYDORE_RECEIVE 0
@@ -302,9 +306,12 @@ struct kosmydore_answered kosmydore_set_up(struct kosmydore_node node, uint32_t 
  * more. A payload or an output is the address of its first byte and its length; the two do not
  * overlap. An address is not null, also where the length is 0.
  *
- * The DLC is the one on the bus, at most KOSMYDORE_MAX_DLC, and the payload has the bytes that it
- * means: as many as it says up to 8, and 8 from 9 to 15. Anything else is answered by
- * KOSMYDORE_BAD_FRAME, and so is a confirmation or an abort whose DLC is not 0.
+ * The DLC is the one on the bus, and the payload has the bytes that it means: as many as it says up
+ * to 8, and 8 from 9 to 15. A frame at fault is answered by the first of
+ *   KOSMYDORE_IDENTIFIER_TOO_BIG   the identifier is above KOSMYDORE_MAX_BUS_ID;
+ *   KOSMYDORE_DLC_TOO_BIG          the DLC is above KOSMYDORE_MAX_DLC;
+ *   KOSMYDORE_PAYLOAD_LENGTH       the payload has not the bytes that the DLC means;
+ *   KOSMYDORE_UNWANTED_PAYLOAD     a confirmation or an abort whose DLC is not 0.
  */
 struct kosmydore_delivered kosmydore_hear(struct kosmydore_node node, uint32_t id, uint32_t dlc,
                                           const uint8_t *payload, size_t payload_length,

@@ -27,11 +27,11 @@ impl Call {
         }
     }
 
-    /// The reply numbers that the call can give.
+    /// The numbers of the replies that the call can give.
     pub fn numbers(self) -> &'static [usize] {
         match self {
             Call::SetUp => &[0, 1, 2, 3],
-            Call::Hear => &[0, 4, 5, 6, 7, 11],
+            Call::Hear => &[0, 5, 6, 7, 11, 18, 19, 20, 21],
             Call::Tick => &[0, 11],
             Call::Request => &[0, 8, 9, 10],
             Call::NextFrame => &[0, 11, 12],
@@ -73,8 +73,9 @@ impl CallCounts {
     pub fn missing(&self) -> Vec<String> {
         let mut missing = Vec::new();
         for call in Call::ALL {
-            for &number in call.numbers() {
-                if self.replies[call as usize][number] == 0 {
+            for reply in Reply::ALL {
+                let number = reply.number();
+                if call.numbers().contains(&number) && self.replies[call as usize][reply.place()] == 0 {
                     missing.push(format!("{} never answered {number}", call.name()));
                 }
             }
@@ -123,7 +124,7 @@ impl fmt::Display for CallCounts {
         for call in Call::ALL {
             write!(f, "  {:<10}", call.name())?;
             for reply in Reply::ALL {
-                let count = self.replies[call as usize][reply.number()];
+                let count = self.replies[call as usize][reply.place()];
                 if count > 0 {
                     write!(f, "  {} {reply:?} {count}", reply.number())?;
                 }

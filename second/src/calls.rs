@@ -135,10 +135,11 @@ impl Calls {
     }
 
     fn count(&mut self, call: Call, reply: Reply) {
-        self.seen.replies[call as usize][reply.number()] += 1;
+        self.seen.replies[call as usize][reply.place()] += 1;
         match self.fault {
             Fault::InventedTally => self.tally.count(Reply::Done),
             Fault::TallyMissesRefusals if reply != Reply::Done => {}
+            Fault::TallyOfFour if reply >= Reply::IdentifierTooBig => self.tally.count(Reply::BadFrame),
             _ => self.tally.count(reply),
         }
     }

@@ -72,7 +72,7 @@ impl HistoryCounts {
     }
 
     fn count_event(&mut self, event: &Event, outcome: &Outcome) {
-        let mut replied = |reply: Reply| self.replies[reply.number()] += 1;
+        let mut replied = |reply: Reply| self.replies[reply.place()] += 1;
         match outcome {
             Outcome::Replied(reply) => replied(*reply),
             Outcome::NothingPending => replied(Reply::Nothing),
@@ -160,7 +160,7 @@ impl fmt::Display for HistoryCounts {
         )?;
         write!(f, "  replies:")?;
         for reply in Reply::ALL {
-            let count = self.replies[reply.number()];
+            let count = self.replies[reply.place()];
             if count > 0 {
                 write!(f, "  {} {reply:?} {count}", reply.number())?;
             }

@@ -273,8 +273,8 @@ fn said_of(layout: &Layout, line: &str, seen: &mut Seen) -> Said {
     }
     let answer = Answer { reply: line.number()?, id: line.number()?, written: line.length()?, output: line.bytes()? };
     let bytes_after = line.bytes()?;
-    if let Some(count) = seen.replies.get_mut(answer.reply as usize) {
-        *count += 1;
+    if let Some(reply) = Reply::from_number(answer.reply.into()) {
+        seen.replies[reply.place()] += 1;
     }
     if answer.reply != Reply::Done as u32 {
         same("the bytes after a refusal", &bytes_after, &bytes)?;

@@ -5,7 +5,7 @@ use std::collections::BTreeMap;
 
 use crate::clock::Clock;
 use crate::fault::Fault;
-use crate::ident::{own, split_by, BusId, Code, Stream};
+use crate::ident::{code_of, own, split_by, BusId, Code, Stream};
 use crate::limits::Limit;
 use crate::receiver::{Did, Fate, Happened, Receiver};
 use crate::record;
@@ -218,19 +218,36 @@ impl Node {
         if self.fault == Fault::MineFirst && !matches!(self.parts.get(&Stream(id / 4)), Some(Part::Receives(_))) {
             return Err(Reply::NotMine);
         }
-        let (stream, code) = split_by(self.fault, BusId(id))?;
-        let unwanted = matches!(code, Code::Confirmation | Code::Abort) && dlc != 0;
-        if self.above(usize::from(dlc), Limit::DlcMost)
-            || !self.means(dlc, payload.len())
-            || unwanted
-            || self.fault == Fault::RefusesFrames
-        {
-            return Err(Reply::BadFrame);
+        if let Some(reply) = self.fault_in(id, dlc, payload.len()) {
+            return Err(reply);
         }
         if short {
             return Err(Reply::ShortOutput);
         }
-        Ok((stream, code))
+        split_by(self.fault, BusId(id))
+    }
+
+    /// The first fault in a frame with so many bytes, if it has one.
+    fn fault_in(&self, id: u32, dlc: u8, bytes: usize) -> Option<Reply> {
+        let mut faults = [
+            (split_by(self.fault, BusId(id)).is_err(), Reply::IdentifierTooBig),
+            (self.above(usize::from(dlc), Limit::DlcMost), Reply::DlcTooBig),
+            (!self.means(dlc, bytes), Reply::PayloadLength),
+            (matches!(code_of(id), Code::Confirmation | Code::Abort) && dlc != 0, Reply::UnwantedPayload),
+        ];
+        match self.fault {
+            Fault::DlcFirst => faults.swap(0, 1),
+            Fault::UnwantedFirst => faults.swap(2, 3),
+            Fault::RefusesFrames => faults[0].0 = true,
+            _ => {}
+        }
+        let reply = faults.iter().find(|(holds, _)| *holds).map(|(_, reply)| *reply)?;
+        Some(match self.fault {
+            Fault::OneFaultOfFrames => Reply::BadFrame,
+            Fault::Swapped(one, other) if reply == one => other,
+            Fault::Swapped(one, other) if reply == other => one,
+            _ => reply,
+        })
     }
 
     /// Whether a DLC means so many bytes. ISO 11898-1 reads every DLC from 9 to 15 as eight.

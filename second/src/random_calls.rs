@@ -207,6 +207,9 @@ impl Maker<'_> {
                 _ => self.random.draw() as u32,
             },
         };
+        if self.random.percent(6) {
+            return self.heard_at_fault(id, known);
+        }
         let payload = match code {
             1 | 2 if !self.random.percent(4) => Vec::new(),
             _ => self.payload(known),
@@ -221,6 +224,20 @@ impl Maker<'_> {
         };
         let output = self.output(16);
         format!("hear {id} {dlc} {} {output}", hex(&payload))
+    }
+
+    /// A frame in which each fault is drawn by itself, so that several meet.
+    fn heard_at_fault(&mut self, id: u32, known: Option<usize>) -> String {
+        let payload = self.payload(known);
+        let too_big = if self.random.percent(30) { 536_870_912 } else { 0 };
+        let code = if self.random.percent(60) { self.random.pick(&[1, 2]) } else { id % 4 };
+        let dlc = match self.random.below(10) {
+            0..=2 => self.random.from(16, 255),
+            3..=5 => self.random.from(0, 15),
+            _ => payload.len() as u64,
+        };
+        let output = self.output(16);
+        format!("hear {} {dlc} {} {output}", (id - id % 4 + code) | too_big, hex(&payload))
     }
 
     fn tick(&mut self) {

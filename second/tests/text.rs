@@ -48,7 +48,10 @@ fn an_example_of_calls() {
          hear 20 2 0a0b 16 => 0 0 eeeeeeeeeeeeeeeeeeeeeeeeeeeeeeee\n\
          hear 20 2 0a0c 16 => 7 0 eeeeeeeeeeeeeeeeeeeeeeeeeeeeeeee\n\
          hear 23 0 - 16 => 6 0 eeeeeeeeeeeeeeeeeeeeeeeeeeeeeeee\n\
-         hear 21 1 00 16 => 4 0 eeeeeeeeeeeeeeeeeeeeeeeeeeeeeeee\n\
+         hear 536870912 16 00 16 => 18 0 eeeeeeeeeeeeeeeeeeeeeeeeeeeeeeee\n\
+         hear 21 16 - 16 => 19 0 eeeeeeeeeeeeeeeeeeeeeeeeeeeeeeee\n\
+         hear 21 9 00 16 => 20 0 eeeeeeeeeeeeeeeeeeeeeeeeeeeeeeee\n\
+         hear 21 1 00 16 => 21 0 eeeeeeeeeeeeeeeeeeeeeeeeeeeeeeee\n\
          hear 21 0 - 15 => 11 0 eeeeeeeeeeeeeeeeeeeeeeeeeeeeee\n\
          hear 21 0 - 0 => 11 0 -\n\
          hear 31 2 0a0b 17 => 0 10 08000100070000000a0beeeeeeeeeeeeee\n\
@@ -68,10 +71,10 @@ fn an_example_of_calls() {
          next 8 => 12 0 0 eeeeeeeeeeeeeeee\n\
          hear 21 0 - 16 => 0 0 eeeeeeeeeeeeeeeeeeeeeeeeeeeeeeee\n\
          next 8 => 0 22 0 eeeeeeeeeeeeeeee\n\
-         tally => 30 1 0 1 1 1 1 1 1 1 1 4 1\n\
+         tally => 30 1 0 1 0 1 1 1 1 1 1 4 1 1 1 1 1\n\
          ticks 0 => 19\n\
          node => node\n\
-         tally => 0 0 0 0 0 0 0 0 0 0 0 0 0",
+         tally => 0 0 0 0 0 0 0 0 0 0 0 0 0 0 0 0 0",
     );
     assert_eq!(calls(&lines), due);
     assert_eq!(calls(lines.trim_end()), due, "a last line without a newline counts");

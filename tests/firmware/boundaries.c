@@ -264,22 +264,29 @@ static void dlcs(void)
         for (other = 8; other <= KOSMYDORE_MAX_DLC; other++)
             SAME(heard(first.node, 20, other, KOSMYDORE_MAX_PAYLOAD), KOSMYDORE_DONE);
         SAME(heard(first.node, 20, 7, 7), KOSMYDORE_CLASH);
-        SAME(heard(receiver, 20, dlc, 7), KOSMYDORE_BAD_FRAME);
-        SAME(heard(receiver, 20, dlc, 9), KOSMYDORE_BAD_FRAME);
-        SAME(heard(receiver, 21, dlc, KOSMYDORE_MAX_PAYLOAD), KOSMYDORE_BAD_FRAME);
-        SAME(heard(receiver, 22, dlc, KOSMYDORE_MAX_PAYLOAD), KOSMYDORE_BAD_FRAME);
+        SAME(heard(receiver, 20, dlc, 7), KOSMYDORE_PAYLOAD_LENGTH);
+        SAME(heard(receiver, 20, dlc, 9), KOSMYDORE_PAYLOAD_LENGTH);
+        SAME(heard(receiver, 21, dlc, KOSMYDORE_MAX_PAYLOAD), KOSMYDORE_UNWANTED_PAYLOAD);
+        SAME(heard(receiver, 22, dlc, KOSMYDORE_MAX_PAYLOAD), KOSMYDORE_UNWANTED_PAYLOAD);
     }
-    SAME(heard(receiver, 20, KOSMYDORE_MAX_DLC, KOSMYDORE_MAX_DLC), KOSMYDORE_BAD_FRAME);
-    SAME(heard(receiver, 20, KOSMYDORE_MAX_DLC + 1, KOSMYDORE_MAX_PAYLOAD), KOSMYDORE_BAD_FRAME);
-    SAME(heard(receiver, 20, KOSMYDORE_MAX_DLC + 1, KOSMYDORE_MAX_DLC + 1), KOSMYDORE_BAD_FRAME);
-    SAME(heard(receiver, 20, 255, KOSMYDORE_MAX_PAYLOAD), KOSMYDORE_BAD_FRAME);
-    SAME(heard(receiver, 20, 256, 0), KOSMYDORE_BAD_FRAME);
-    SAME(heard(receiver, 20, 264, KOSMYDORE_MAX_PAYLOAD), KOSMYDORE_BAD_FRAME);
-    SAME(heard(receiver, 20, 271, KOSMYDORE_MAX_PAYLOAD), KOSMYDORE_BAD_FRAME);
-    SAME(heard(receiver, 20, 65544, KOSMYDORE_MAX_PAYLOAD), KOSMYDORE_BAD_FRAME);
-    SAME(heard(receiver, 21, 256, 0), KOSMYDORE_BAD_FRAME);
-    SAME(heard(receiver, 20, TOP, KOSMYDORE_MAX_PAYLOAD), KOSMYDORE_BAD_FRAME);
-    SAME(heard(receiver, 20, 7, KOSMYDORE_MAX_PAYLOAD), KOSMYDORE_BAD_FRAME);
+    SAME(heard(receiver, 20, KOSMYDORE_MAX_DLC, KOSMYDORE_MAX_DLC), KOSMYDORE_PAYLOAD_LENGTH);
+    SAME(heard(receiver, 20, KOSMYDORE_MAX_DLC + 1, KOSMYDORE_MAX_PAYLOAD), KOSMYDORE_DLC_TOO_BIG);
+    SAME(heard(receiver, 20, KOSMYDORE_MAX_DLC + 1, KOSMYDORE_MAX_DLC + 1), KOSMYDORE_DLC_TOO_BIG);
+    SAME(heard(receiver, 20, 255, KOSMYDORE_MAX_PAYLOAD), KOSMYDORE_DLC_TOO_BIG);
+    SAME(heard(receiver, 20, 256, 0), KOSMYDORE_DLC_TOO_BIG);
+    SAME(heard(receiver, 20, 264, KOSMYDORE_MAX_PAYLOAD), KOSMYDORE_DLC_TOO_BIG);
+    SAME(heard(receiver, 20, 271, KOSMYDORE_MAX_PAYLOAD), KOSMYDORE_DLC_TOO_BIG);
+    SAME(heard(receiver, 20, 65544, KOSMYDORE_MAX_PAYLOAD), KOSMYDORE_DLC_TOO_BIG);
+    SAME(heard(receiver, 21, 256, 0), KOSMYDORE_DLC_TOO_BIG);
+    SAME(heard(receiver, 20, TOP, KOSMYDORE_MAX_PAYLOAD), KOSMYDORE_DLC_TOO_BIG);
+    SAME(heard(receiver, 20, 7, KOSMYDORE_MAX_PAYLOAD), KOSMYDORE_PAYLOAD_LENGTH);
+    SAME(heard(receiver, KOSMYDORE_MAX_BUS_ID + 2, 256, 1), KOSMYDORE_IDENTIFIER_TOO_BIG);
+    SAME(heard(receiver, TOP, 0, 0), KOSMYDORE_IDENTIFIER_TOO_BIG);
+    SAME(heard(receiver, KOSMYDORE_MAX_BUS_ID, 0, 0), KOSMYDORE_NOT_MINE);
+    SAME(heard(receiver, 21, KOSMYDORE_MAX_DLC + 1, 1), KOSMYDORE_DLC_TOO_BIG);
+    SAME(heard(receiver, 21, 1, 0), KOSMYDORE_PAYLOAD_LENGTH);
+    SAME(heard(receiver, 21, 0, 1), KOSMYDORE_PAYLOAD_LENGTH);
+    SAME(heard(receiver, 25, 1, 1), KOSMYDORE_UNWANTED_PAYLOAD);
     SAME(heard(receiver, 20, 7, 7), KOSMYDORE_DONE);
 }
 
@@ -399,9 +406,12 @@ static void lent_node(void)
     COUNTED(kosmydore_module_set_up(NODE, KOSMYDORE_MAX_STREAM + 1, settings, TALLY), KOSMYDORE_BAD_SETTINGS, 0);
     COUNTED(kosmydore_module_set_up(NODE, 5, settings, TALLY), KOSMYDORE_DONE, 0);
     COUNTED(kosmydore_module_set_up(NODE, 5, settings, TALLY), KOSMYDORE_TAKEN, 0);
-    COUNTED(kosmydore_module_hear(NODE, 20, 271, payload, 8, OUTPUT(KOSMYDORE_HEAR_OUTPUT), TALLY).reply, KOSMYDORE_BAD_FRAME, 0);
-    COUNTED(kosmydore_module_hear(NODE, 20, 264, payload, 8, OUTPUT(KOSMYDORE_HEAR_OUTPUT), TALLY).reply, KOSMYDORE_BAD_FRAME, 0);
-    COUNTED(kosmydore_module_hear(NODE, 20, TOP, payload, 8, OUTPUT(KOSMYDORE_HEAR_OUTPUT), TALLY).reply, KOSMYDORE_BAD_FRAME, 0);
+    COUNTED(kosmydore_module_hear(NODE, 20, 271, payload, 8, OUTPUT(KOSMYDORE_HEAR_OUTPUT), TALLY).reply, KOSMYDORE_DLC_TOO_BIG, 0);
+    COUNTED(kosmydore_module_hear(NODE, 20, 264, payload, 8, OUTPUT(KOSMYDORE_HEAR_OUTPUT), TALLY).reply, KOSMYDORE_DLC_TOO_BIG, 0);
+    COUNTED(kosmydore_module_hear(NODE, 20, TOP, payload, 8, OUTPUT(KOSMYDORE_HEAR_OUTPUT), TALLY).reply, KOSMYDORE_DLC_TOO_BIG, 0);
+    COUNTED(kosmydore_module_hear(NODE, TOP, TOP, payload, 8, OUTPUT(KOSMYDORE_HEAR_OUTPUT), TALLY).reply, KOSMYDORE_IDENTIFIER_TOO_BIG, 0);
+    COUNTED(kosmydore_module_hear(NODE, 21, 9, payload, 7, OUTPUT(KOSMYDORE_HEAR_OUTPUT), TALLY).reply, KOSMYDORE_PAYLOAD_LENGTH, 0);
+    COUNTED(kosmydore_module_hear(NODE, 21, 9, payload, 8, OUTPUT(KOSMYDORE_HEAR_OUTPUT), TALLY).reply, KOSMYDORE_UNWANTED_PAYLOAD, 0);
 
     /* rooms, and a message from its data to its record */
     COUNTED(kosmydore_module_hear(NODE, 20, 8, payload, 8, OUTPUT(KOSMYDORE_HEAR_OUTPUT - 1), TALLY).reply, KOSMYDORE_SHORT_OUTPUT, 0);
@@ -470,7 +480,9 @@ static void count(void)
         counted(__LINE__, "count", numbers[i], numbers[i], 0);
     }
     was = lent;
-    SAME(kosmydore_count(TALLY, KOSMYDORE_TALLY_SIZE), false);
+    for (i = KOSMYDORE_NOTHING + 1; i < KOSMYDORE_IDENTIFIER_TOO_BIG; i++)
+        SAME(kosmydore_count(TALLY, (uint32_t)i), false);
+    SAME(kosmydore_count(TALLY, KOSMYDORE_UNWANTED_PAYLOAD + 1), false);
     SAME(kosmydore_count(TALLY, 256), false);
     SAME(kosmydore_count(TALLY, TOP), false);
     SAME(kosmydore_count(lent.counts + EDGE, KOSMYDORE_TALLY_SIZE - 1, 0), false);

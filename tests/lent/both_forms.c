@@ -82,6 +82,16 @@ static const char *const names[CALLS] = {"set up", "hear", "tick", "request", "n
 static unsigned long seen[CALLS][KOSMYDORE_TALLY_SIZE];
 static enum call call;
 
+/* Where the count of a reply stands, KOSMYDORE_TALLY_SIZE where it has none. */
+static size_t place_of(uint32_t reply)
+{
+    size_t place = 0;
+
+    while (place < KOSMYDORE_TALLY_SIZE && numbers[place] != reply)
+        place++;
+    return place;
+}
+
 /* ---- what must happen, beside the replies ---- */
 enum event { ROLLED_OVER, DELIVERED, ALL_DELIVERED, PLAIN_DELIVERED, TALLY_FULL, TALLY_OTHER, WILD_NODE_DONE, HIGH_DLC, HIGH_SETTING, EVENTS };
 static const char *const event_names[EVENTS] = {
@@ -128,22 +138,19 @@ static bool is_node(void)
 /* The reply is counted apart, and the tally has these counts. */
 static bool count_apart(uint32_t reply)
 {
-    bool has = false;
+    size_t place = place_of(reply);
 
     if (tally_length != KOSMYDORE_TALLY_SIZE) {
         events[TALLY_OTHER]++;
         return false;
     }
-    for (size_t i = 0; i < KOSMYDORE_TALLY_SIZE; i++) {
-        if (numbers[i] == reply) {
-            has = true;
-            if (counts[EDGE + i] == UINT32_MAX)
-                events[TALLY_FULL]++;
-            else
-                counts[EDGE + i]++;
-        }
-    }
-    return has;
+    if (place == KOSMYDORE_TALLY_SIZE)
+        return false;
+    if (counts[EDGE + place] == UINT32_MAX)
+        events[TALLY_FULL]++;
+    else
+        counts[EDGE + place]++;
+    return true;
 }
 
 static void same_tally(void)
@@ -178,8 +185,8 @@ static void after(uint32_t reply, uint32_t expected, size_t written)
     size_t at = EDGE + written;
 
     check("the reply", reply == (is_node() ? expected : KOSMYDORE_BAD_LENGTH));
-    if (reply < KOSMYDORE_TALLY_SIZE)
-        seen[call][reply]++;
+    if (place_of(reply) < KOSMYDORE_TALLY_SIZE)
+        seen[call][place_of(reply)]++;
     if (call != FRESH)
         count_apart(reply);
     same_tally();
@@ -232,7 +239,7 @@ static void hear(void)
         a.written = 0, memcpy(output_by_value, output_before, sizeof output);
     check("how much is written", w.written == a.written);
     check("the judgement of the DLC", f.dlc <= KOSMYDORE_MAX_DLC || w.reply != KOSMYDORE_DONE);
-    events[HIGH_DLC] += f.dlc > 255 && w.reply == KOSMYDORE_BAD_FRAME;
+    events[HIGH_DLC] += f.dlc > 255 && w.reply == KOSMYDORE_DLC_TOO_BIG;
     events[PLAIN_DELIVERED] += w.written != 0;
     after(w.reply, a.reply, w.written);
 }
@@ -300,7 +307,7 @@ static void count(void)
     check("whether there is a count", has == count_apart(reply));
     same_tally();
     same_lent();
-    seen[call][has ? KOSMYDORE_DONE : KOSMYDORE_NOTHING]++;
+    seen[call][place_of(has ? KOSMYDORE_DONE : KOSMYDORE_NOTHING)]++;
 }
 
 /* ---- where calls begin ---- */
@@ -389,10 +396,12 @@ static void all_occurred(void)
 {
     static const struct {
         enum call call;
-        uint32_t replies[8];
+        uint32_t replies[10];
     } each[] = {
         {SET_UP, {KOSMYDORE_BAD_SETTINGS, KOSMYDORE_TAKEN, KOSMYDORE_TABLE_FULL, KOSMYDORE_BAD_LENGTH}},
-        {HEAR, {KOSMYDORE_SHORT_OUTPUT, KOSMYDORE_BAD_FRAME, KOSMYDORE_NOT_MINE, KOSMYDORE_MISFIT, KOSMYDORE_CLASH, KOSMYDORE_BAD_LENGTH}},
+        {HEAR,
+         {KOSMYDORE_SHORT_OUTPUT, KOSMYDORE_IDENTIFIER_TOO_BIG, KOSMYDORE_DLC_TOO_BIG, KOSMYDORE_PAYLOAD_LENGTH, KOSMYDORE_UNWANTED_PAYLOAD,
+          KOSMYDORE_NOT_MINE, KOSMYDORE_MISFIT, KOSMYDORE_CLASH, KOSMYDORE_BAD_LENGTH}},
         {TICK, {KOSMYDORE_SHORT_OUTPUT, KOSMYDORE_BAD_LENGTH}},
         {REQUEST, {KOSMYDORE_BAD_LENGTH, KOSMYDORE_NOT_SENDER, KOSMYDORE_BUSY}},
         {NEXT_FRAME, {KOSMYDORE_SHORT_OUTPUT, KOSMYDORE_NOTHING, KOSMYDORE_BAD_LENGTH}},
@@ -401,9 +410,9 @@ static void all_occurred(void)
     };
 
     for (size_t i = 0; i < sizeof each / sizeof each[0]; i++) {
-        occurred(names[each[i].call], ": reply", KOSMYDORE_DONE, seen[each[i].call][KOSMYDORE_DONE]);
-        for (size_t k = 0; k < 8 && each[i].replies[k] != KOSMYDORE_DONE; k++)
-            occurred(names[each[i].call], ": reply", each[i].replies[k], seen[each[i].call][each[i].replies[k]]);
+        occurred(names[each[i].call], ": reply", KOSMYDORE_DONE, seen[each[i].call][place_of(KOSMYDORE_DONE)]);
+        for (size_t k = 0; each[i].replies[k] != KOSMYDORE_DONE; k++)
+            occurred(names[each[i].call], ": reply", each[i].replies[k], seen[each[i].call][place_of(each[i].replies[k])]);
     }
     for (size_t i = 0; i < EVENTS; i++)
         occurred(event_names[i], ", event", (uint32_t)i, events[i]);
@@ -415,7 +424,7 @@ static void say_counts(void)
         printf("%s:", names[i]);
         for (size_t k = 0; k < KOSMYDORE_TALLY_SIZE; k++)
             if (seen[i][k] != 0)
-                printf(" %lu of reply %lu;", seen[i][k], (unsigned long)k);
+                printf(" %lu of reply %lu;", seen[i][k], (unsigned long)numbers[k]);
         printf("\n");
     }
     for (size_t i = 0; i < EVENTS; i++)
