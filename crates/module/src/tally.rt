@@ -14,7 +14,23 @@ impl Tally {
 
     // The numbers that are counted, in the tally's order.
     pub const NUMBERS: [u32; Tally::SIZE] = [
-        0, 1, 2, 3, 4, 5, 6, 7, 8, 9, 10, 11, 12, 18, 19, 20, 21,
+        0,
+        1,
+        2,
+        3,
+        4,
+        5,
+        6,
+        7,
+        8,
+        9,
+        10,
+        11,
+        12,
+        18,
+        19,
+        20,
+        21,
     ];
 
     pub const ZERO: Tally = Tally {

@@ -26,7 +26,7 @@ returns-4 c =
       le-ltb maxBusId _ (q .before .if1 .left),
       le-ltb maxDlc _ (q .if2 .left),
       eq-eqb _ _ (p .if3 .left ∙ p .before .at-most-payload .ensures),
-      c .if4 .taken
+      c .if4 .taken,
     )
 
 returns-5 : tie.Need-returns-5
@@ -37,7 +37,7 @@ returns-5 c =
       le-ltb maxBusId _ (q .before .if1 .left),
       le-ltb maxDlc _ (q .if2 .left),
       eq-eqb _ _ (p .if3 .left ∙ p .before .at-most-payload .ensures),
-      c .if4 .left
+      c .if4 .left,
     )
 
 pub frame-reply-spec : {M : Type 1} → statement M
