@@ -19,6 +19,7 @@ use Rattle.wire.specs.Delivered.{isCut, otherLength, recordFound, noReco
 use Rattle.wire.specs.Delivered.{recordsOf, messageIn, messagesAt, Writable, no-message, one-more, AreBytes}
 use Rattle.wire.proofs.Records.{record-length, does-fit}
 
+-- two tests of which neither holds
 pub neither : (a b : Bool) → (a || b) ≡ false → (a ≡ false) × (b ≡ false)
 neither true b e = absurd (false≢true (sym e))
 neither false b e = (refl, e)
