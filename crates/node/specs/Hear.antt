@@ -15,7 +15,8 @@ use Rattle.wire.specs.Refusals.{Refusals}
 use Rattle.node.specs.declared.slots.Slot.{Slot}
 use Rattle.node.specs.declared.Node.{Node}
 use Rattle.node.specs.Slots.{noMessage, holding, restamped, confirmed, same, abortPending, isReceiver, withParts, withMessage}
-use Rattle.node.specs.Nodes.{slotOf, onSlot, Outcome, unlessRefused, done}
+use Rattle.node.specs.Nodes.{slotOf, onSlot, Outcome, unlessRefused, done, telling}
+use Rattle.node.specs.Told.{toldBy, ofFrame}
 
 -- a plain frame is delivered at once, so the longest record must fit
 abbrev pub hearRoom : ℕ
@@ -69,4 +70,5 @@ hearRefusals id dlc payload output x =
 unfoldable pub hear : BusId → (dlc : ℕ) → (payload output : List ℕ) → Node → Outcome
 hear id dlc payload output n =
     unlessRefused n (hearRefusals id dlc payload output (slotOf (streamOf id) n))
-    (done (onSlot (streamOf id) (heardBy (n .counter) (codeOf id) payload) n) (deliveredAtOnce id payload))
+    (telling (ofFrame (toldBy (codeOf id) (slotOf (streamOf id) n)))
+    (done (onSlot (streamOf id) (heardBy (n .counter) (codeOf id) payload) n) (deliveredAtOnce id payload)))

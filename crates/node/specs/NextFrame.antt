@@ -14,6 +14,7 @@ use Rattle.node.specs.declared.slots.Slot.{Slot}
 use Rattle.node.specs.declared.Node.{Node}
 use Rattle.node.specs.Slots.{payloadOf, payloadGiven, confirmationGiven, abortGiven, withParts, first, onFirst, some}
 use Rattle.node.specs.Nodes.{withSlots, Outcome, unlessRefused}
+use Rattle.node.specs.Told.{silent}
 use Rattle.node.specs.Request.{hasPending}
 
 -- the longest payload must fit
@@ -54,6 +55,7 @@ give n =
       reply = Done;
       id = join (x .stream) (lowestCode x) .id;
       bytes = payloadFor (lowestCode x) x;
+      report = silent;
     }
 
 abbrev pub nextRefusals : (output : List ℕ) → Node → Refusals

@@ -18,6 +18,7 @@ use Rattle.wire.specs.Settings.{ofPlain}
 use Rattle.wire.specs.Refusals.{Refusals}
 use Rattle.node.specs.declared.slots.Slot.{Slot}
 use Rattle.node.specs.declared.Node.{Node}
+use Rattle.node.specs.Told.{silent}
 use Rattle.node.specs.Nodes.{slotCount, Outcome}
 use Rattle.node.specs.Clock.{Clock}
 use Rattle.node.specs.Calls.{Call, outcome, after}
@@ -28,12 +29,13 @@ use Rattle.node.specs.Request.{requestRefusals}
 use Rattle.node.specs.NextFrame.{nextRefusals}
 use Rattle.node.specs.Moments.{five, receive, send, settings, data₅, request₅, next, one-tick}
 
--- the node and every lent output are as they were; no byte is written, and the payload's length and the identifier are 0
+-- the node and every lent output are as they were; no byte is written, the payload's length and the identifier are 0, and nothing is told
 pub record Unchanged (n : Node) (o : Outcome) : Type 0 where
   pub node : o .node ≡ n
   pub output : (lent : List ℕ) → over (o .bytes) lent ≡ lent
   pub written : length (o .bytes) ≡ 0
   pub id : o .id .0 ≡ 0
+  pub report : o .report ≡ silent
 
 -- with any reply but Done, for every clock, call and node
 abbrev pub RefusedUnchanged : Type 0

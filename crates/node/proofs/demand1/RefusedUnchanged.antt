@@ -20,7 +20,7 @@ refusal-unchanged : {n : Node} {tests : Refusals} {Facts : Type 0} {result o : O
     → o .reply ≢ Done → Unchanged n o
 refusal-unchanged {n} law is-done =
     by-case (λ (o : Outcome). o .reply ≢ Done → Unchanged n o)
-    (λ r why other. record { node = refl; output = λ lent. refl; written = refl; id = refl }) (λ facts other. absurd (other is-done)) (law .case)
+    (λ r why other. record { node = refl; output = λ lent. refl; written = refl; id = refl; report = refl }) (λ facts other. absurd (other is-done)) (law .case)
 
 pub refused-unchanged : RefusedUnchanged
 unfolding give

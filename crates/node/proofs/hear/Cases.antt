@@ -18,7 +18,8 @@ use Rattle.wire.proofs.Refusing.{Passes, reply-passes, reply-passed}
 use Rattle.node.specs.declared.slots.Slot.{Slot}
 use Rattle.node.specs.declared.Node.{Node}
 use Rattle.node.specs.Slots.{isReceiver}
-use Rattle.node.specs.Nodes.{slotOf, onSlot, Outcome, done}
+use Rattle.node.specs.Told.{toldBy, ofFrame}
+use Rattle.node.specs.Nodes.{slotOf, onSlot, Outcome, done, telling}
 use Rattle.node.specs.Hear.{hearRoom, clashes, heardBy, deliveredAtOnce, slotHearRefusals, hearRefusals, hear}
 use Rattle.node.proofs.Cases.{Cases, cases}
 
@@ -65,7 +66,9 @@ module _ (id : BusId) (dlc : ℕ) (payload output : List ℕ) where
     slot = slotOf (streamOf id) n
 
     abbrev pub heard : Outcome
-    heard = done (onSlot (streamOf id) (heardBy (n .counter) (codeOf id) payload) n) (deliveredAtOnce id payload)
+    heard =
+        telling (ofFrame (toldBy (codeOf id) slot))
+        (done (onSlot (streamOf id) (heardBy (n .counter) (codeOf id) payload) n) (deliveredAtOnce id payload))
 
     pub hear-cases : Cases n (hearRefusals id dlc payload output slot) (HearFacts slot) heard (hear id dlc payload output n)
     unfolding hear

@@ -21,7 +21,8 @@ use Rattle.wire.proofs.Refusing.{Refuses, here, later, Passes, reply-refuses, r
 use Rattle.node.specs.declared.slots.Slot.{Slot}
 use Rattle.node.specs.declared.Node.{Node}
 use Rattle.node.specs.Slots.{empty, isOf}
-use Rattle.node.specs.Nodes.{slotOf, withSlots, refused, done}
+use Rattle.node.specs.Told.{toldBy, ofFrame}
+use Rattle.node.specs.Nodes.{slotOf, withSlots, refused, done, telling}
 use Rattle.node.specs.Hear.{hearRoom, heardBy, plainRecord, deliveredAtOnce, slotHearRefusals, hearRefusals, hear}
 use Rattle.wire.proofs.Frames.{IsFrame, frame-bounds, frame-passes, frame-length}
 use Rattle.wire.proofs.Records.{cut-length, does-fit}
@@ -92,8 +93,9 @@ module _ (id : BusId) (dlc : ℕ) (payload output : List ℕ) (n : Node) where
           slot-refuses e = rw said (refused-at slot there (beyond (reply-refuses (slotHearRefusals (codeOf id) payload slot) (rw said at e))))
 
           pub heard : eqb (numberOf reply) 0 ≡ true → {x : Slot} → x ≡ heardBy (n .counter) (codeOf id) (take maxPayload payload) slot
-              → hear id dlc payload output n ≡ done (withSlots (set (n .slots) i x) n) (deliveredAtOnce id payload)
+              → hear id dlc payload output n
+              ≡ telling (ofFrame (toldBy (codeOf id) slot)) (done (withSlots (set (n .slots) i x) n) (deliveredAtOnce id payload))
           heard e changed =
               let slot-passed = reply-passes (slotHearRefusals (codeOf id) payload slot) refl (rw said at e) in
               hear-cases id dlc payload output n .accepted-if (rw there (hear-facts id dlc payload output slot (le-ltb _ _ room, both-pass (frameRefusals (isBare id) id dlc (length payload)) (slotHearRefusals (codeOf id) payload slot) passed slot-passed)))
-              ∙ rw (changed, frame-whole (isBare id) id dlc payload good, slot-stored n (streamOf id) i found (heardBy (n .counter) (codeOf id) payload) d inside)
+              ∙ rw (there, changed, frame-whole (isBare id) id dlc payload good, slot-stored n (streamOf id) i found (heardBy (n .counter) (codeOf id) payload) d inside)

@@ -10,7 +10,9 @@ use Rattle.wire.specs.Classes.{carries}
 use Rattle.wire.specs.Delivered.{recordOf}
 use Rattle.wire.specs.Settings.{ofPlain, legal}
 use Rattle.node.specs.Slots.{holding, sameBytes, first, onFirst, some}
-use Rattle.node.specs.Nodes.{slotOf, refused, done}
+use Rattle.node.specs.declared.told.Told.the-variants.{Delivered}
+use Rattle.node.specs.Told.{toldBy, ofFrame}
+use Rattle.node.specs.Nodes.{slotOf, refused, done, telling}
 use Rattle.node.specs.Clock.{rolled}
 use Rattle.node.specs.SetUp.{lessFree, inPlace, setUp}
 use Rattle.node.specs.Hear.{hear, heardBy, deliveredAtOnce, hearRoom}
@@ -84,8 +86,9 @@ plain-five = Call.setUp five (ofPlain receiver) ∷ []
 plain-data : Call
 plain-data = Call.hear (record { 0 = 23 }) 2 bytes (replicate hearRoom 0)
 
-paper-keeps-nothing : outcome rolled plain-data (after rolled plain-five) ≡ done (after rolled plain-five) (recordOf five bytes)
-unfolding plain-five plain-data setUp lessFree inPlace hear heardBy deliveredAtOnce carries legal first onFirst some
+paper-keeps-nothing : outcome rolled plain-data (after rolled plain-five)
+    ≡ telling (ofFrame Delivered) (done (after rolled plain-five) (recordOf five bytes))
+unfolding plain-five plain-data setUp lessFree inPlace hear heardBy toldBy deliveredAtOnce carries legal first onFirst some
 paper-keeps-nothing = refl
 
 -- and only streams of class plain carry it

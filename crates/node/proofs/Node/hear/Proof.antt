@@ -18,7 +18,7 @@ use Rattle.wire.specs.Refusals.{replyOf}
 use Rattle.node.specs.declared.slots.Slot.{Slot}
 use Rattle.node.specs.declared.Node.{Node}
 use Rattle.node.specs.Slots.{isOf}
-use Rattle.node.specs.Nodes.{asDelivered}
+use Rattle.node.specs.Nodes.{asHeard}
 use Rattle.node.specs.Hear.{hearRoom, deliveredAtOnce, slotHearRefusals}
 use Rattle.node.specs.Calls.{Call}
 use Rattle.node.proofs.slots.Finding.{noSlot, length-of-mapped, indexOf, NoneBefore, none-at-first, not-here, search-ends}
@@ -55,7 +55,7 @@ module _ (s : tie.Start Inv-loop μ-loop) where
 returns : tie.Need-returns Inv-loop μ-loop
 returns c =
     let s = c .before .before .before in
-    promised-both (call s) (node s) asDelivered (output s) (short-output _ _ _ _ _ (c .if1 .taken)) refl refl
+    promised-both (call s) (node s) asHeard (output s) (short-output _ _ _ _ _ (c .if1 .taken)) refl refl
 
 -- the frame test answers as its refusals say
 module _ (c : tie.After-frame-reply Inv-loop μ-loop) where
@@ -71,7 +71,7 @@ returns-2 c =
     let b = q .before in
     let s = start-1 b in
     let refuses = ap (λ (k : ℕ). eqb k 0) (sym (q .number .ensures)) ∙ ne-eqb _ _ (c .if2 .taken) in
-    promised-both (call s) (node s) asDelivered (output s) (no-frame _ _ _ _ _ (b .before .before .if1 .left) _ (tested b) refuses) refl refl
+    promised-both (call s) (node s) asHeard (output s) (no-frame _ _ _ _ _ (b .before .before .if1 .left) _ (tested b) refuses) refl refl
 
 -- ── a frame ──
 -- the call, seen from past the second test; `start-3` and `start-4` from further on
@@ -121,7 +121,7 @@ returns-3 c =
     let b = f .before .before .before .before in
     let s = start-3 f in
     let none : length (node s .slots) ≤ f .before .loop .i = omega (arith, long s) in
-    promised-both (call s) (node s) asDelivered (output s) (no-slot _ _ _ _ _ (room b) (good b) _ (found f) none) refl refl
+    promised-both (call s) (node s) asHeard (output s) (no-slot _ _ _ _ _ (room b) (good b) _ (found f) none) refl refl
 
 -- ── the slot of its stream ──
 module _ (c : tie.Else4 Inv-loop μ-loop) where
@@ -148,7 +148,7 @@ returns-4 c =
     let b = o .before .before .before .before .before in
     let s = start-4 o in
     let refuses = ap (λ (k : ℕ). eqb k 0) (sym (q .number2 .ensures)) ∙ ne-eqb _ _ (c .if5 .taken) in
-    promised-both (call s) (node s) asDelivered (output s)
+    promised-both (call s) (node s) asHeard (output s)
     (slot-refuses _ _ _ _ _ (room b) (good b) _ (found (o .before)) noSlot (inside o) _ (answers a) refuses)
     refl refl
 
@@ -158,20 +158,21 @@ unfolding deliveredAtOnce
 returns-5 c =
     let w = c .before .before in
     let h = w .before .before in
-    let q = h .before .before in
+    let q = h .before .before .before in
     let a = q .before in
     let o = a .before .before in
     let b = o .before .before .before .before .before in
     let s = start-4 o in
     let p = splits (o .before .before .before .before) in
-    let takes = ap (λ (k : ℕ). eqb k 0) (sym (q .number2 .ensures)) ∙ eq-eqb _ _ (h .before .if5 .left) in
+    let takes = ap (λ (k : ℕ). eqb k 0) (sym (q .number2 .ensures)) ∙ eq-eqb _ _ (h .before .before .if5 .left) in
+    let told = rw p at (h .before .told .ensures) in
     let changed = rw p at (h .hear .ensures) in
     let written =
     rw (p, fits-at-once _ _ (payload s) (output s) (room b), frame-whole (isBare (s .args .id)) (s .args .id) (s .args .dlc) (payload s) (good b)) at
     (w .deliver-plain .ensures) in
-    promised-both (call s) (node s) asDelivered (output s)
+    promised-both (call s) (node s) asHeard (output s)
     (heard _ _ _ _ _ (room b) (good b) _ (found (o .before)) noSlot (inside o) _ (answers a) takes changed)
-    (rw (written .0))
+    (rw (written .0, told))
     (written .1)
 
 pub hear-spec : {M : Type 1} → statement M
@@ -199,6 +200,7 @@ hear-spec =
     (λ c κs. search needs)
     (λ c κs. search needs)
     returns-4
+    (λ c κs. search needs)
     (λ c κs. search needs)
     (λ c. search needs)
     (λ c. search needs)
