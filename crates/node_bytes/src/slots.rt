@@ -120,12 +120,16 @@ pub(crate) fn slot_at(bytes: &[u8], i: usize) -> Slot
     }
 }
 
+// Whether slot i is in use for this stream: most are of another, and of these the stream alone is read.
 pub(crate) fn of_at(bytes: &[u8], i: usize, stream: Stream) -> bool
     requires { ⌜ (length (now bytes) ≡ nodeSize) × (i < slotCount) ⌝ }
     ensures { λ r. ⌜ r ≡ isOf stream (slotAt (now (bytes .entry)) i) ⌝ }
 {
     let at = layout::SLOT_SIZE * i;
-    flag_at(bytes, layout::USED + at) & (four_at(bytes, layout::STREAM + at) == stream.0)
+    if four_at(bytes, layout::STREAM + at) != stream.0 {
+        return false;
+    }
+    flag_at(bytes, layout::USED + at)
 }
 
 pub(crate) fn free_at(bytes: &[u8], i: usize) -> bool
