@@ -1,34 +1,36 @@
 -- The tick of a lent node: its loop, stated of the nodes that the bytes are, and what its ways answer and leave.
 use mathlib.Core.Path.{_≡_, refl, sym, ap, _∙_}
-use mathlib.Core.Bool.{true, false}
-use mathlib.Core.List.{List, []}
-use Prim.Native.Nat.{ℕ, _+_, _≤_, _<_}
+use mathlib.Core.Bool.{Bool, true, false}
+use mathlib.Core.List.{List, [], _++_}
+use Prim.Native.Nat.{ℕ, _+_, _-_, _≤_, _<_}
 use native.Mathlib.Omega.{arith}
 use borrow.Author.Tests.{lt-ltb}
-use lib.ListN.{length, getD, set}
+use lib.ListN.{length, take, drop, getD, set}
 use lib.Seq.{set-set, getD-set-same}
 use Rattle.wire.specs.declared.reply.Reply.the-variants.{Done, BadLength, ShortOutput}
 use Rattle.wire.specs.Frames.{maxPayload}
+use Rattle.wire.specs.Delivered.{recordOf, over, fitting}
 use Rattle.wire.proofs.Refusing.{here}
 use Rattle.node.specs.declared.slots.Message.{Message}
-use Rattle.node.specs.declared.slots.Pending.{Pending}
 use Rattle.node.specs.declared.slots.Slot.{Slot}
 use Rattle.node.specs.declared.Node.{Node}
-use Rattle.node.specs.Slots.{empty, withParts, withMessage}
+use Rattle.node.specs.Slots.{empty, payloadOf, frames, withParts, withMessage}
 use Rattle.node.specs.Nodes.{slotCount, withSlots, done, asAnswered}
 use Rattle.node.specs.Clock.{rolled}
-use Rattle.node.specs.Tick.{tickRoom, due, lapsed, ageOf, dueSlots, recordsFrom, ticked, tick}
-use Rattle.node.specs.Stirring.{mayStir}
+use Rattle.node.specs.Hear.{hearRoom}
+use Rattle.node.specs.Tick.{tickRoom, due, lapsed, dropped, delivered, ageOf, dueSlots, recordFrom, recordsFrom, ticked, tick}
 use Rattle.node.specs.Calls.{Call}
 use Rattle.node.proofs.tick.Cases.{tick-cases}
-use Rattle.node.proofs.tick.Stirring.{Still, still-stays, young-is-still}
-use Rattle.node.proofs.tick.OnePass.{Lapsing, lapsing-at-first, all-lapsed, slot-as-it-was, one-stays, one-lapses}
-use Rattle.node.proofs.tick.OnePass.{Writing, writing-at-first, all-written, one-is-not-due}
+use Rattle.node.proofs.tick.Stirring.{due-is-delivered}
+use Rattle.node.proofs.tick.OnePass.{Lapsing, lapsing-at-first, all-lapsed, slot-as-it-was, one-lapses}
+use Rattle.node.proofs.tick.OnePass.{Writing, writing-at-first, all-written, one-is-not-due, written-is-small, one-is-written}
+use Rattle.node.proofs.slots.Payloads.{part-is-payload}
 use Rattle.node_bytes.specs.Layout.{nodeSize}
 use Rattle.node_bytes.specs.Decoding.{slotFrom, slotAt, decode}
 use Rattle.node_bytes.specs.Lent.{withSlot, withCounter}
 use Rattle.node_bytes.specs.LentCalls.{asWritten}
 use Rattle.node_bytes.proofs.ByIndex.{decoded-slot, decoded-length}
+use Rattle.node_bytes.proofs.Lapses.{Lapses, same-slot}
 use Rattle.node_bytes.proofs.Calling.{AllTold, all-told, refusal-told, no-node, as-node, call-done}
 
 -- ── a slot of which parts are stored ──
@@ -39,19 +41,24 @@ module _ (bytes after : List ℕ) (i : ℕ) (inside : i < slotCount) (y : Slot)
       let same : withMessage (y .message) (slotAt bytes i) ≡ y = rw made in
       (put .0, rw same at (put .1))
 
-  -- the message, and then the pending frames
+  -- the message, and then the abort
   module _ (last : List ℕ)
-      (then : (length last ≡ length after) × (decode last ≡ withSlot i (withParts (slotAt after i) (slotAt after i .message) (y .pending)) (decode after))) where
+      (then : (length last ≡ length after)
+      × (decode last
+      ≡ withSlot i
+      (withParts (slotAt after i) (slotAt after i .message)
+      (frames (slotAt after i .pending .payload) (slotAt after i .pending .confirmation) (y .pending .abort)))
+      (decode after))) where
     read-between : slotAt after i ≡ withMessage (y .message) (slotAt bytes i)
     read-between =
         sym (decoded-slot after i empty inside)
         ∙ ap (λ (n : Node). getD (n .slots) i empty) (put .1)
         ∙ getD-set-same (decode bytes .slots) i _ empty (omega (arith, decoded-length bytes))
 
-    pub parts-put : (m : Message) (p : Pending) → y ≡ withParts (slotAt bytes i) m p
-        → (length last ≡ length bytes) × (decode last ≡ withSlot i y (decode bytes))
-    parts-put m p made =
-        let same : withParts (slotAt bytes i) (y .message) (y .pending) ≡ y = rw made in
+    pub abort-put : y ≡ dropped (slotAt bytes i) → (length last ≡ length bytes) × (decode last ≡ withSlot i y (decode bytes))
+    abort-put made =
+        let p = slotAt bytes i .pending in
+        let same : withParts (slotAt bytes i) (y .message) (frames (p .payload) (p .confirmation) (y .pending .abort)) ≡ y = rw made in
         let left = rw (read-between, put .1) at (then .1) in
         (then .0 ∙ put .0, left ∙ ap (λ (l : List Slot). withSlots l (decode bytes)) (set-set (decode bytes .slots) i _ _ ∙ ap (set (decode bytes .slots) i) same))
 
@@ -88,14 +95,6 @@ module _ {now : ℕ} {bytes₀ out₀ bytes out : List ℕ} {i at : ℕ} (t : Ti
       not-due : due age x ≡ false → Writing rolled now (decode bytes₀ .slots) out₀ out (i + 1) at
       not-due e = one-is-not-due (t .writing) empty h x read-as-it-was age a e
 
-      pub slot-stays : Still age x → Ticking now bytes₀ out₀ bytes out (i + 1) at
-      slot-stays still =
-          record {
-            whole = t .whole;
-            lapsing = one-stays (t .lapsing) empty h age (rw as-decoded at a) (rw as-decoded at (still-stays age x still));
-            writing = not-due (still .not-due);
-          }
-
       module _ (y : Slot) (made : y ≡ lapsed age x) (after : List ℕ)
           (put : (length after ≡ length bytes) × (decode after ≡ withSlot i y (decode bytes))) where
         -- and whatever is written for it
@@ -111,8 +110,54 @@ module _ {now : ℕ} {bytes₀ out₀ bytes out : List ℕ} {i at : ℕ} (t : Ti
         pub slot-lapses-unwritten : due age x ≡ false → Ticking now bytes₀ out₀ after out (i + 1) at
         slot-lapses-unwritten e = slot-lapses (not-due e)
 
-  pub slot-is-young : mayStir (ageOf rolled now (slotAt bytes i)) (slotAt bytes i) ≡ false → Ticking now bytes₀ out₀ bytes out (i + 1) at
-  slot-is-young e = slot-stays (slotAt bytes i) refl _ refl (young-is-still _ _ e)
+  -- what was asked whether it is due, and lapses where it is not
+  module _ (asked : List ℕ) (is-due : Bool) (l : Lapses (ageOf rolled now (slotAt bytes i)) bytes asked i is-due) where
+    abbrev x : Slot
+    x = slotAt bytes i
+
+    abbrev age : ℕ
+    age = ageOf rolled now x
+
+    pub not-due-lapses : is-due ≡ false → Ticking now bytes₀ out₀ asked out (i + 1) at
+    not-due-lapses e = slot-lapses-unwritten x refl age refl (lapsed age x) refl asked (l .1, rw e at (l .2)) (sym (l .0) ∙ e)
+
+    module _ (yes : is-due ≡ true) where
+      still : decode asked ≡ decode bytes
+      still = (rw yes at (l .2)) ∙ sym (same-slot bytes i h)
+
+      same-here : slotAt asked i ≡ x
+      same-here =
+          sym (decoded-slot asked i empty h) ∙ ap (λ (n : Node). getD (n .slots) i empty) still ∙ decoded-slot bytes i empty h
+
+      abbrev part : List ℕ
+      part = take (length out - at) (drop at out)
+
+      -- and is delivered, into the part that was lent
+      module _ (after : List ℕ) (r : ℕ) (back : List ℕ)
+          (d : (length after ≡ length asked) × (decode after ≡ withSlot i (delivered (slotAt asked i)) (decode asked))
+          × (r ≡ length (fitting (recordFrom (slotAt asked i)) part)) × (back ≡ over (fitting (recordFrom (slotAt asked i)) part) part)) where
+        abbrev long : ℕ
+        long = length (payloadOf (x .message))
+
+        abbrev as-lent : List ℕ
+        as-lent = recordOf (x .stream) (take maxPayload (take (long - 0) (x .message .bytes)))
+
+        record-is : as-lent ≡ recordFrom x
+        record-is = rw (part-is-payload (x .message) (x .message .bytes) (eight-bytes x refl) long refl)
+
+        wrote : (r ≡ length (fitting as-lent part)) × (back ≡ over (fitting as-lent part) part)
+        wrote = rw (record-is, ← same-here) (d .2, d .3)
+
+        pub record-is-small : r ≤ hearRoom
+        record-is-small =
+            written-is-small (t .writing) empty h x (read-as-it-was x refl) age refl (x .message .bytes) (eight-bytes x refl) long refl r (wrote .0)
+
+        pub due-lapses : Ticking now bytes₀ out₀ after (take at out ++ (back ++ drop (length out - at) (drop at out))) (i + 1) (at + r)
+        due-lapses =
+            let is : due age x ≡ true = sym (l .0) ∙ yes in
+            let writes =
+            one-is-written (t .writing) empty h x (read-as-it-was x refl) age refl (x .message .bytes) (eight-bytes x refl) long refl is r back wrote in
+            slot-lapses x refl age refl (delivered x) (due-is-delivered age x is) after (d .0 ∙ l .1, rw (same-here, still) at (d .1)) writes
 
 -- ── the call ──
 module _ (output bytes : List ℕ) where

@@ -47,7 +47,7 @@ pub(crate) fn eight_at(bytes: &[u8], at: usize) -> [u8; 8]
     ]
 }
 
-fn wide16(x: u8) -> u16
+pub(crate) fn wide16(x: u8) -> u16
     ensures { λ r. ⌜ (r ≡ x) × (r ≤ 255) ⌝ }
 {
     x as u16

@@ -3,18 +3,34 @@ use crate::Written;
 use crate::counter::counter_of;
 use crate::counter::put_counter;
 use crate::layout;
-use crate::slots::may_stir_at;
+use crate::slots::RECEIVES_IMD;
+use crate::slots::RECEIVES_TWO_MESSAGE;
+use crate::slots::confirm_delay_at;
+use crate::slots::confirmed_at;
+use crate::slots::deliver_delay_at;
+use crate::slots::held_at;
+use crate::slots::kind_at;
+use crate::slots::put_abort;
 use crate::slots::put_message;
-use crate::slots::put_pending;
 use crate::slots::slot_at;
+use crate::slots::stamp_at;
 use node::Node;
 use node::tick::age;
 use node::tick::next;
 use wire::delivered::write_record;
 use wire::reply::Reply;
 ghost use mathlib.Core.Path.{_≡_};
-ghost use Rattle.wire.specs.Delivered.{over};
+ghost use mathlib.Core.Bool.{cond};
+ghost use Prim.Native.Nat.{_<_};
+ghost use lib.ListN.{length};
+ghost use Rattle.wire.specs.Delivered.{over, fitting};
+ghost use Rattle.node.specs.Nodes.{slotCount};
+ghost use Rattle.node.specs.Clock.{rolled};
+ghost use Rattle.node.specs.Tick.{due, lapsed, delivered, ageOf, recordFrom};
 ghost use Rattle.node.specs.Calls.{Call};
+ghost use Rattle.node_bytes.specs.Layout.{nodeSize};
+ghost use Rattle.node_bytes.specs.Decoding.{slotAt, decode};
+ghost use Rattle.node_bytes.specs.Lent.{withSlot};
 ghost use Rattle.node_bytes.specs.LentCalls.{lentOutcome, asWritten, Leaves};
 
 // Moves the counter by one; what is due is delivered, and what is late dropped.
@@ -44,28 +60,80 @@ pub fn tick(bytes: &mut [u8], out: &mut [u8]) -> Written
     while passed < Node::SLOTS {
         let i = passed;
         passed += 1;
-        if may_stir_at(bytes, i, now) {
-            let old = slot_at(bytes, i);
-            let a = age(now, old.message.stamp);
-            if old.due(a) {
-                let t = old.delivered();
-                put_message(bytes, i, t.message);
-                let message = old.message;
-                let payload = message.bytes;
-                let n = message.payload_length();
-                at += write_record(&mut out[at..], old.stream, &payload[0..n]);
-            } else if old.late(a) {
-                let t = old.dropped();
-                put_message(bytes, i, t.message);
-                put_pending(bytes, i, t.pending);
-            } else if old.hold_over(a) {
-                let t = old.hold_ended();
-                put_message(bytes, i, t.message);
-            }
+        if lapse_at(bytes, i, now) {
+            at += deliver_at(bytes, i, &mut out[at..]);
         }
     }
     Written {
         reply: Reply::Done,
         written: at,
     }
+}
+
+// Whether the message of slot i is due now. Where it is not, the slot lapses: what is late is dropped, and a hold that is over ends. What
+// the slot itself says is asked only where it may say so: of the others a byte or a delay is read, and no more.
+fn lapse_at(bytes: &mut [u8], i: usize, counter: u16) -> bool
+    requires { ⌜ (length (now bytes) ≡ nodeSize) × (i < slotCount) ⌝ }
+    ensures { λ r. ⌜ (r ≡ due (ageOf rolled counter (slotAt (now (bytes .entry)) i)) (slotAt (now (bytes .entry)) i))
+        × (length (now (bytes .exit)) ≡ length (now (bytes .entry)))
+        × (decode (now (bytes .exit))
+        ≡ withSlot i
+        (cond r (slotAt (now (bytes .entry)) i) (lapsed (ageOf rolled counter (slotAt (now (bytes .entry)) i)) (slotAt (now (bytes .entry)) i)))
+        (decode (now (bytes .entry)))) ⌝ }
+{
+    if !held_at(bytes, i) {
+        return false;
+    }
+    let a = age(counter, stamp_at(bytes, i));
+    let kind = kind_at(bytes, i);
+    if kind == RECEIVES_TWO_MESSAGE {
+        if confirmed_at(bytes, i) {
+            if a <= deliver_delay_at(bytes, i) {
+                return false;
+            }
+            let confirmed = slot_at(bytes, i);
+            return confirmed.due(a);
+        }
+        if a <= confirm_delay_at(bytes, i) {
+            return false;
+        }
+        let waiting = slot_at(bytes, i);
+        if !waiting.late(a) {
+            return false;
+        }
+        let t = waiting.dropped();
+        put_message(bytes, i, t.message);
+        put_abort(bytes, i, t.pending.abort);
+        return false;
+    }
+    if a <= deliver_delay_at(bytes, i) {
+        return false;
+    }
+    let old = slot_at(bytes, i);
+    if kind == RECEIVES_IMD {
+        return old.due(a);
+    }
+    if !old.hold_over(a) {
+        return false;
+    }
+    let t = old.hold_ended();
+    put_message(bytes, i, t.message);
+    false
+}
+
+// The message of slot i is gone, and its record stands at the front of the output, where it fits; answers how many bytes were written.
+fn deliver_at(bytes: &mut [u8], i: usize, out: &mut [u8]) -> usize
+    requires { ⌜ (length (now bytes) ≡ nodeSize) × (i < slotCount) ⌝ }
+    ensures { λ r. ⌜ (length (now (bytes .exit)) ≡ length (now (bytes .entry)))
+        × (decode (now (bytes .exit)) ≡ withSlot i (delivered (slotAt (now (bytes .entry)) i)) (decode (now (bytes .entry))))
+        × (r ≡ length (fitting (recordFrom (slotAt (now (bytes .entry)) i)) (now (out .entry))))
+        × (now (out .exit) ≡ over (fitting (recordFrom (slotAt (now (bytes .entry)) i)) (now (out .entry))) (now (out .entry))) ⌝ }
+{
+    let old = slot_at(bytes, i);
+    let t = old.delivered();
+    put_message(bytes, i, t.message);
+    let message = old.message;
+    let payload = message.bytes;
+    let n = message.payload_length();
+    write_record(out, old.stream, &payload[0..n])
 }
