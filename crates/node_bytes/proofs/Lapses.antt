@@ -57,11 +57,11 @@ module _ (age : ℕ) (x : Slot) where
         go true false false e f g = rw (f, g) (simp and-false)
 
 -- ── what is left ──
--- slot i is due, and as it was, or has lapsed
-abbrev pub Lapses : (age : ℕ) (bytes after : List ℕ) (i : ℕ) (is-due : Bool) → Type 0
-Lapses age bytes after i is-due =
-    (is-due ≡ due age (slotAt bytes i)) × (length after ≡ length bytes)
-    × (decode after ≡ withSlot i (cond is-due (slotAt bytes i) (lapsed age (slotAt bytes i))) (decode bytes))
+-- slot i is due, and as it was, or has lapsed, and then so many messages were dropped of it
+abbrev pub Lapses : (age : ℕ) (bytes after : List ℕ) (i r : ℕ) → Type 0
+Lapses age bytes after i r =
+    (r ≡ cond (due age (slotAt bytes i)) 2 (cond (late age (slotAt bytes i)) 1 0)) × (length after ≡ length bytes)
+    × (decode after ≡ withSlot i (cond (due age (slotAt bytes i)) (slotAt bytes i) (lapsed age (slotAt bytes i))) (decode bytes))
 
 module _ (bytes : List ℕ) (i : ℕ) (inside : i < slotCount) where
   pub same-slot : decode bytes ≡ withSlot i (slotAt bytes i) (decode bytes)
@@ -76,14 +76,19 @@ module _ (bytes : List ℕ) (i : ℕ) (inside : i < slotCount) where
     abbrev x : Slot
     x = slotAt bytes i
 
-    pub stays : Still age x → Lapses counted bytes bytes i false
-    stays s = let left : Lapses age bytes bytes i false = (sym (s .not-due), refl, rw (still-stays age x s) same-slot) in rw aged at left
+    pub stays : Still age x → Lapses counted bytes bytes i 0
+    stays s =
+        let left : Lapses age bytes bytes i 0 = (rw (s .not-due, s .not-late), refl, rw (s .not-due, still-stays age x s) same-slot) in rw aged at left
 
-    pub may-be-due : (is-due : Bool) → is-due ≡ due age x → late age x ≡ false → holdOver age x ≡ false → Lapses counted bytes bytes i is-due
-    may-be-due true e not-late not-over = (rw aged at e, refl, same-slot)
-    may-be-due false e not-late not-over = stays (record { not-late = not-late; not-due = sym e; not-over = not-over })
+    pub may-be-due : (is-due : Bool) → is-due ≡ due age x → late age x ≡ false → holdOver age x ≡ false
+        → (r : ℕ) → r ≡ cond is-due 2 0 → Lapses counted bytes bytes i r
+    may-be-due true e not-late not-over r said =
+        let left : Lapses age bytes bytes i r = (rw (← e) said, refl, rw (← e) same-slot) in rw aged at left
+    may-be-due false e not-late not-over r said =
+        let left = stays (record { not-late = not-late; not-due = sym e; not-over = not-over }) in rw said left
 
     pub lapses : due age x ≡ false → (y : Slot) → y ≡ lapsed age x → (after : List ℕ)
-        → (length after ≡ length bytes) × (decode after ≡ withSlot i y (decode bytes)) → Lapses counted bytes after i false
-    lapses not-due y made after put =
-        let left : Lapses age bytes after i false = (sym not-due, put .0, rw (← made) (put .1)) in rw aged at left
+        → (length after ≡ length bytes) × (decode after ≡ withSlot i y (decode bytes))
+        → (r : ℕ) → r ≡ cond (late age x) 1 0 → Lapses counted bytes after i r
+    lapses not-due y made after put r said =
+        let left : Lapses age bytes after i r = (rw not-due said, put .0, rw (not-due, ← made) (put .1)) in rw aged at left

@@ -89,7 +89,7 @@ module _ {clock : Clock} {now : ℕ} {slots : List Slot} {i dropped delivered : 
 
   module _ (d : Slot) (h : i < slotCount) (x : Slot) (same : x ≡ getD slots i d) (age : ℕ) (a : age ≡ ageOf clock now x) where
     -- one slot more, with whether it is late, and whether it is due
-    one-counted : (late-now due-now : Bool) → late age x ≡ late-now → due age x ≡ due-now
+    pub one-counted : (late-now due-now : Bool) → late age x ≡ late-now → due age x ≡ due-now
         → (p q : ℕ) → p ≡ dropped + cond late-now 1 0 → q ≡ delivered + cond due-now 1 0 → Counting clock now slots (i + 1) p q
     unfolding many
     one-counted late-now due-now l e p q dropped-now delivered-now =

@@ -18,6 +18,7 @@ use Rattle.wire.specs.Refusals.{replyOf}
 use Rattle.node.specs.declared.slots.Slot.{Slot}
 use Rattle.node.specs.declared.Node.{Node}
 use Rattle.node.specs.Slots.{empty, isOf}
+use Rattle.node.specs.Told.{toldBy}
 use Rattle.node.specs.Nodes.{asAnswered}
 use Rattle.node.specs.Hear.{hearRoom, heardBy, deliveredAtOnce, slotHearRefusals}
 use Rattle.node.specs.Calls.{Call}
@@ -25,7 +26,7 @@ use Rattle.node.proofs.slots.Finding.{indexOf}
 use Rattle.node.proofs.hear.Ways.{frame-splits, frame-whole, fits-at-once, short-output, no-frame, a-frame, no-slot, slot-refuses, heard}
 use Rattle.node_bytes.specs.Layout.{nodeSize}
 use Rattle.node_bytes.specs.Decoding.{decode}
-use Rattle.node_bytes.specs.LentCalls.{asWritten}
+use Rattle.node_bytes.specs.LentCalls.{asLentHeard}
 use Rattle.node_bytes.proofs.ByIndex.{decoded-slot, decoded-length, decoded-counter}
 use Rattle.node_bytes.proofs.Calling.{no-node, as-node, refusal-told, all-told, slot-put}
 use Rattle.node_bytes.proofs.hear.hear.Statement.{statement}
@@ -51,12 +52,12 @@ module _ (s : tie.Start) where
 returns : tie.Need-returns
 returns c =
     let s = c .before .before .before .before in
-    refusal-told (call s) (bytes s) asWritten (output s) BadLength (no-node (call s) (bytes s) (c .if1 .taken))
+    refusal-told (call s) (bytes s) asLentHeard (output s) BadLength (no-node (call s) (bytes s) (c .if1 .taken))
 
 returns-2 : tie.Need-returns-2
 returns-2 c =
     let s = c .before .before .before .before .before in
-    refusal-told (call s) (bytes s) asWritten (output s) ShortOutput
+    refusal-told (call s) (bytes s) asLentHeard (output s) ShortOutput
     (as-node (call s) (bytes s) (c .before .if1 .left) ∙ short-output _ _ _ _ (node s) (c .if2 .taken))
 
 -- the frame test answers as its refusals say
@@ -74,7 +75,7 @@ returns-3 c =
     let b = q .before in
     let s = tested-at b in
     let refuses = ap (λ (k : ℕ). eqb k 0) (sym (q .number .ensures)) ∙ ne-eqb _ _ (c .if3 .taken) in
-    refusal-told (call s) (bytes s) asWritten (output s) _
+    refusal-told (call s) (bytes s) asLentHeard (output s) _
     (as-node (call s) (bytes s) (b .before .before .before .if1 .left) ∙ no-frame _ _ _ _ (node s) (b .before .before .if2 .left) _ (tested b) refuses)
 
 -- ── a node, and a frame ──
@@ -112,7 +113,7 @@ returns-4 c =
     let f = c .before in
     let b = split-at f .before in
     let s = start b in
-    refusal-told (call s) (bytes s) asWritten (output s) NotMine
+    refusal-told (call s) (bytes s) asLentHeard (output s) NotMine
     (as-node (call s) (bytes s) (whole b) ∙ no-slot _ _ _ _ (node s) (room b) (good b) _ (found f) (omega (arith, decoded-length (bytes s))))
 
 -- ── the slot of its stream ──
@@ -150,16 +151,16 @@ returns-5 c =
     let b = frame o in
     let s = start b in
     let refuses = ap (λ (k : ℕ). eqb k 0) (sym (c .before .number2 .ensures)) ∙ ne-eqb _ _ (c .if5 .taken) in
-    refusal-told (call s) (bytes s) asWritten (output s) _
+    refusal-told (call s) (bytes s) asLentHeard (output s) _
     (as-node (call s) (bytes s) (whole b)
     ∙ slot-refuses _ _ _ _ (node s) (room b) (good b) _ (found (find-at o)) empty (inside o) _ (answers a) refuses)
 
 counter-of-requires : tie.Need-counter-of-requires
-counter-of-requires c κs = whole (frame (c .before .before .before .before))
+counter-of-requires c κs = whole (frame (c .before .before .before .before .before))
 
 put-slot-requires : tie.Need-put-slot-requires
 put-slot-requires c κs =
-    let o = c .before .before .before .before .before .before .before in
+    let o = c .before .before .before .before .before .before .before .before in
     (whole (frame o), omega arith)
 
 -- ── it hears ──
@@ -169,13 +170,14 @@ returns-6 c =
     let w = c .before .before in
     let put = w .before .before .before .before in
     let h = put .before .before in
-    let q = h .before .before .before .before in
+    let q = h .before .before .before .before .before in
     let a = q .before in
     let o = a .before in
     let b = frame o in
     let s = start b in
     let p = splits (split-at (find-at o)) in
-    let takes = ap (λ (k : ℕ). eqb k 0) (sym (q .number2 .ensures)) ∙ eq-eqb _ _ (h .before .before .before .if5 .left) in
+    let takes = ap (λ (k : ℕ). eqb k 0) (sym (q .number2 .ensures)) ∙ eq-eqb _ _ (h .before .before .before .before .if5 .left) in
+    let told = said-of toldBy p (slot-of-node o) (h .before .before .before .told .ensures) in
     let changed =
     said-of (λ code x. heardBy (node s .counter) code (take maxPayload (payload s)) x) p (slot-of-node o)
     (rw (h .before .counter-of .ensures ∙ sym (decoded-counter (bytes s))) at (h .hear .ensures)) in
@@ -183,8 +185,8 @@ returns-6 c =
     rw (p, fits-at-once _ _ (payload s) (output s) (room b), frame-whole (isBare (s .args .id)) (s .args .id) (s .args .dlc) (payload s) (good b)) at
     (w .deliver-plain .ensures) in
     let does = heard _ _ _ _ (node s) (room b) (good b) _ (found (find-at o)) empty (inside o) _ (answers a) takes changed in
-    all-told (call s) (bytes s) asWritten (output s) (as-node (call s) (bytes s) (whole b) ∙ does)
-    (rw (written .0))
+    all-told (call s) (bytes s) asLentHeard (output s) (as-node (call s) (bytes s) (whole b) ∙ does)
+    (rw (written .0, told))
     (written .1)
     (slot-put (call s) (bytes s) (whole b) _ _ (deliveredAtOnce (s .args .id) (payload s)) _ (ap asAnswered (sym does)) (put .put-slot .ensures) .1)
 
@@ -207,6 +209,7 @@ hear-spec =
     (λ c κs. search needs)
     (λ c. search needs)
     returns-5
+    (λ c κs. search needs)
     counter-of-requires
     (λ c κs. search needs)
     put-slot-requires

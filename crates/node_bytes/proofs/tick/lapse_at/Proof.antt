@@ -51,15 +51,17 @@ returns-2 c =
 
 returns-3 : tie.Need-returns-3
 returns-3 c =
-    let confirmed = c .before .before .before .before .before .before in
+    let asked = c .before in
+    let confirmed = asked .before .before .before .before .before .before in
     let kind = confirmed .before .before .before in
     let counted = kind .before .before .before in
     let s = start counted in
     let a = counted .age .result in
     let is-confirmed = sym (confirmed .before .confirmed-at .ensures) ∙ confirmed .if3 .taken in
-    may-be-due (now (s .args .bytes)) (s .args .i) (s .pre .1) a (aged counted) _ (c .due .ensures ∙ ap (due a) (c .before .slot-at .ensures))
+    may-be-due (now (s .args .bytes)) (s .args .i) (s .pre .1) a (aged counted) _ (asked .due .ensures ∙ ap (due a) (asked .before .slot-at .ensures))
     (confirmed-is-not-late a (slot s) is-confirmed)
     (two-message-is-not-over a (slot s) (kind .before .kind-at .ensures) (kind .if2 .taken))
+    _ (c .due-or-none .ensures)
 
 -- ── received in 2M, and unconfirmed ──
 returns-4 : tie.Need-returns-4
@@ -117,7 +119,7 @@ returns-6 c =
     let drop = made .dropped .ensures ∙ ap dropped there in
     let stored = abort-put _ _ _ (s .pre .1) _ (put .put-message .ensures) _ (abort .put-abort .ensures) drop in
     lapses (now (s .args .bytes)) (s .args .i) (s .pre .1) a (aged counted) (waiting-is-not-due a (slot s) (kind .before .kind-at .ensures) (kind .if2 .taken) waits)
-    _ (drop ∙ late-is-dropped a (slot s) is-late) _ stored
+    _ (drop ∙ late-is-dropped a (slot s) is-late) _ stored _ (rw is-late)
 
 -- ── received in IMD, sent, or none of these ──
 returns-7 : tie.Need-returns-7
@@ -136,14 +138,16 @@ returns-7 c =
 
 returns-8 : tie.Need-returns-8
 returns-8 c =
-    let imd = c .before in
+    let asked = c .before in
+    let imd = asked .before in
     let kind = imd .before .before .before .before .before .before in
     let counted = kind .before .before .before in
     let s = start counted in
     let a = counted .age .result in
-    may-be-due (now (s .args .bytes)) (s .args .i) (s .pre .1) a (aged counted) _ (c .due2 .ensures ∙ ap (due a) (imd .before .slot-at3 .ensures))
+    may-be-due (now (s .args .bytes)) (s .args .i) (s .pre .1) a (aged counted) _ (asked .due2 .ensures ∙ ap (due a) (imd .before .slot-at3 .ensures))
     (another-is-not-late a (slot s) (kind .before .kind-at .ensures) (kind .if2 .left))
     (imd-is-not-over a (slot s) (kind .before .kind-at .ensures) (imd .if8 .taken))
+    _ (c .due-or-none2 .ensures)
 
 returns-9 : tie.Need-returns-9
 returns-9 c =
@@ -177,7 +181,7 @@ returns-10 c =
     let not-due = another-is-not-due a (slot s) k (kind .if2 .left) (imd .if8 .left) in
     let ends = made .hold-ended .ensures ∙ ap holdEnded there in
     let stored = message-put _ _ _ (s .pre .1) _ (put .put-message2 .ensures) _ ends in
-    lapses (now (s .args .bytes)) (s .args .i) (s .pre .1) a (aged counted) not-due _ (ends ∙ over-is-ended a (slot s) not-late not-due is-over) _ stored
+    lapses (now (s .args .bytes)) (s .args .i) (s .pre .1) a (aged counted) not-due _ (ends ∙ over-is-ended a (slot s) not-late not-due is-over) _ stored _ (rw not-late)
 
 pub lapse-at-spec : {M : Type 1} → statement M
 lapse-at-spec =
@@ -193,6 +197,7 @@ lapse-at-spec =
     (λ c κs. search needs)
     (λ c. search needs)
     returns-2
+    (λ c κs. search needs)
     (λ c κs. search needs)
     (λ c κs. search needs)
     (λ c. search needs)
@@ -212,6 +217,7 @@ lapse-at-spec =
     (λ c κs. search needs)
     (λ c. search needs)
     returns-7
+    (λ c κs. search needs)
     (λ c κs. search needs)
     (λ c κs. search needs)
     (λ c. search needs)

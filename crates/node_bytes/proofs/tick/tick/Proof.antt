@@ -15,16 +15,17 @@ use Rattle.node.specs.Clock.{rolled}
 use Rattle.node.proofs.tick.OnePass.{writing-keeps-length, has-room}
 use Rattle.node_bytes.specs.Layout.{counterAt, nodeSize}
 use Rattle.node_bytes.proofs.ByIndex.{decoded-counter}
-use Rattle.node_bytes.proofs.CallingTick.{Ticking, ticking-at-first, not-due-lapses, record-is-small, due-lapses}
+use Rattle.node_bytes.proofs.CallingTick.{Ticking, ticking-at-first, one-at-most, not-due-lapses, record-is-small, due-lapses}
 use Rattle.node_bytes.proofs.CallingTick.{tick-not-a-node, tick-refused, tick-is-done}
 use Rattle.node_bytes.proofs.tick.tick.Statement.{statement}
 use Rattle.node_bytes.proofs.tick.tick.Tie as tie
 
 abbrev Inv-loop : tie.InvT-loop
-Inv-loop bytes₀ out₀ now at₀ passed₀ bytes out at passed = (passed ≤ slotCount) × Ticking now bytes₀ out₀ bytes out passed at
+Inv-loop bytes₀ out₀ now at₀ dropped₀ delivered₀ passed₀ bytes out at dropped delivered passed =
+    (passed ≤ slotCount) × Ticking now bytes₀ out₀ bytes out passed at dropped delivered
 
 abbrev μ-loop : tie.MeasureT-loop
-μ-loop bytes₀ out₀ now at₀ passed₀ bytes out at passed = slotCount - passed
+μ-loop bytes₀ out₀ now at₀ dropped₀ delivered₀ passed₀ bytes out at dropped delivered passed = slotCount - passed
 
 -- ── refused ──
 returns : tie.Need-returns Inv-loop μ-loop
@@ -71,6 +72,11 @@ add-at c =
     record-is-small (turn .before .loop .inv .1) (turn .loop-test .taken) _ _ (asked .lapse-at .ensures) (tested .if3 .taken) _ _ _ (wrote .deliver-at .ensures) in
     omega (arith, room turn, small)
 
+add-delivered : tie.Need-add-delivered Inv-loop μ-loop
+add-delivered c =
+    let turn = c .before .before .before .before .before .before .before .before .before .before .before .before in
+    omega (arith, turn .before .loop .inv .1 .counting .few .1, turn .loop-test .taken)
+
 loop-again : tie.Need-loop-again Inv-loop μ-loop
 loop-again c =
     let wrote = c .before .before .before .before in
@@ -80,6 +86,13 @@ loop-again c =
     let next =
     due-lapses (turn .before .loop .inv .1) (turn .loop-test .taken) _ _ (asked .lapse-at .ensures) (tested .if3 .taken) _ _ _ (wrote .deliver-at .ensures) in
     (omega arith, next)
+
+add-dropped : tie.Need-add-dropped Inv-loop μ-loop
+add-dropped c =
+    let asked = c .before .before .before in
+    let turn = asked .before .before in
+    let few = one-at-most (turn .before .loop .inv .1) (turn .loop-test .taken) _ _ (asked .lapse-at .ensures) (c .if3 .left) in
+    omega (arith, turn .before .loop .inv .1 .counting .few .0, turn .loop-test .taken, few)
 
 loop-again-2 : tie.Need-loop-again-2 Inv-loop μ-loop
 loop-again-2 c =
@@ -125,8 +138,10 @@ tick-spec =
     (λ c. search needs)
     deliver-at-requires
     add-at
+    add-delivered
     (λ c. omega (arith, inside (c .before .before .before .before .before .before .before .before .before .before .before .before)))
     loop-again
+    add-dropped
     (λ c. omega (arith, inside (c .before .before .before .before .before)))
     loop-again-2
     same-length
