@@ -9,7 +9,9 @@ use Rattle.wire.specs.Settings.{sends, isTwoMessage}
 use Rattle.node.specs.declared.slots.Slot.{Slot}
 use Rattle.node.specs.declared.Node.{Node}
 use Rattle.node.specs.Nodes.{Outcome, done}
-use Rattle.node.specs.Tick.{holdLength, ageOf, recordsFrom, tick}
+use Rattle.node.specs.Slots.{many}
+use Rattle.node.specs.Told as told
+use Rattle.node.specs.Tick.{holdLength, ageOf, lapses, recordsFrom, tick}
 use Rattle.node.specs.Clock.{Clock, period, unbounded, rolled}
 use Rattle.node.specs.Calls.{Call, outcome, afterFrom, Answer, answerOf, answersFrom}
 use Rattle.node.specs.Reachable.{longest, All}
@@ -71,6 +73,12 @@ module _ (clock : Clock) where
         go true e = young-is-quiet _ x (omega (arith, steady now (x .message .stamp), stays e))
         go false e = unheld-is-still _ x e
 
+    -- where no slot changes, nothing is dropped and nothing delivered
+    tells-none : (now : ℕ) (xs : List Slot) → All (StillAt clock now) xs → lapses clock now xs ≡ told.silent
+    unfolding many
+    tells-none now [] all = refl
+    tells-none now (x ∷ xs) (here, others) = rw (here .not-late, here .not-due) (tells-none now xs others)
+
     -- one tick
     quiet-tick : (k : ℕ) (n : Node) → All (Stays (n .counter) (suc k)) (n .slots)
         → outcome clock (Call.tick room) n ≡ done (standing (clock .next (n .counter)) n) []
@@ -79,7 +87,7 @@ module _ (clock : Clock) where
         let now = clock .next (n .counter) in
         let still = all-weaken (Stays (n .counter) (suc k)) (StillAt clock now) (quiet-slot (n .counter) k) (n .slots) all in
         let (same, none) = still-tick clock now (n .slots) still in
-        tick-cases room clock n .accepted-if (record { room = omega arith }) ∙ rw (same, none)
+        tick-cases room clock n .accepted-if (record { room = omega arith }) ∙ rw (same, none, tells-none now (n .slots) still)
 
     goes-on : (now k : ℕ) (xs : List Slot) → All (Stays now (suc k)) xs → All (Stays (clock .next now) k) xs
     goes-on now k xs all =
