@@ -3,7 +3,7 @@ use mathlib.Core.Path.{_≡_, refl, sym, ap, _∙_}
 use mathlib.Core.Bool.{Bool, true, false, cond, not, _&&_}
 use mathlib.Core.List.{List, [], _∷_}
 use Prim.Native.Nat.{ℕ, zero, suc, _+_, _-_, _%_, _≤_, _<_, min}
-use native.Mathlib.Nat.{add-zero}
+use native.Mathlib.Nat.{add-zero, zero-add}
 use native.Mathlib.Omega.{arith}
 use Rattle.wire.specs.Settings.{sends, isTwoMessage}
 use Rattle.node.specs.declared.slots.Slot.{Slot}
@@ -37,6 +37,12 @@ young-is-quiet age x young = go (sends (x .settings)) (isTwoMessage (x .settings
         record { not-late = sym (young-is-not-late age x h); not-due = waiting-is-not-due age x f; not-over = other-is-not-over age x e }
     go false false e f h =
         record { not-late = ready-is-not-late age x f; not-due = sym (young-is-not-due age x h); not-over = other-is-not-over age x e }
+
+-- what holds of no slot holds of 0 of them
+none-of : (test : Slot → Bool) (xs : List Slot) → All (λ x. test x ≡ false) xs → many test xs ≡ 0
+unfolding many
+none-of test [] none = refl
+none-of test (x ∷ xs) (here, others) = rw here (zero-add _ ∙ none-of test xs others)
 
 -- ── a stretch ──
 module _ (clock : Clock) where
@@ -75,9 +81,9 @@ module _ (clock : Clock) where
 
     -- where no slot changes, nothing is dropped and nothing delivered
     tells-none : (now : ℕ) (xs : List Slot) → All (StillAt clock now) xs → lapses clock now xs ≡ told.silent
-    unfolding many
-    tells-none now [] all = refl
-    tells-none now (x ∷ xs) (here, others) = rw (here .not-late, here .not-due) (tells-none now xs others)
+    tells-none now xs still =
+        rw (none-of _ xs (all-weaken (StillAt clock now) _ (λ x s. s .not-late) xs still),
+        none-of _ xs (all-weaken (StillAt clock now) _ (λ x s. s .not-due) xs still))
 
     -- one tick
     quiet-tick : (k : ℕ) (n : Node) → All (Stays (n .counter) (suc k)) (n .slots)

@@ -18,6 +18,7 @@ use Rattle.heard.specs.declared.reply.Reply.the-variants.{Done, ShortOutput, Cu
 use Rattle.heard.specs.Replies.{numberOf}
 use Rattle.heard.specs.Reading.{heardAt}
 use Rattle.node.specs.declared.Answered.{Answered}
+use Rattle.node.specs.declared.Node.{Node}
 use Rattle.node.specs.declared.Heard.{Heard}
 use Rattle.node.specs.declared.Ticked.{Ticked}
 use Rattle.node.specs.Nodes.{asAnswered, asHeard, asTicked}
@@ -99,7 +100,7 @@ module _ (p : Playback) where
   pub ticks-once : (output : List ℕ) (d : Ticked) (ticks : ℕ) → d ≡ asTicked (tick rolled output (p .node)) → ticks ≡ in64 (p .ticks + 1)
       → goesOn ticks (p .taken) 0 (d .node) (d .written) ≡ asStepped (tickStep output p)
   unfolding tickStep
-  ticks-once output d ticks e f = rw f (ap (λ (k : Ticked). goesOn _ (p .taken) 0 (k .node) (k .written)) e)
+  ticks-once output d ticks e f = rw f (ap (λ (k : Ticked). goesOn (in64 (p .ticks + 1)) (p .taken) 0 (k .node) (k .written)) e)
 
   -- the payload is so many bytes of the window
   pub hears-once : (r : HeardAt) (window output left : List ℕ) (d : Heard) (n taken : ℕ) → n ≡ r .length
@@ -108,7 +109,7 @@ module _ (p : Playback) where
       → taken ≡ in64 (p .taken + r .next)
       → (goesOn (p .ticks) taken (r .next) (d .node) (d .written) ≡ asStepped (hearStep r window output p)) × (left ≡ over (hearStep r window output p .bytes) output)
   unfolding hearStep
-  hears-once r window output left d n taken long (e, w) f = rw (← long) (rw f (ap (λ (k : Heard). goesOn (p .ticks) _ (r .next) (k .node) (k .written)) e), w)
+  hears-once r window output left d n taken long (e, w) f = rw (← long) (rw f (ap (λ (k : Heard). goesOn (p .ticks) (in64 (p .taken + r .next)) (r .next) (k .node) (k .written)) e), w)
 
   -- at a record that cannot be read
   module _ (reply : Reply) (ended : Bool) (n cut : ℕ) (e : n ≡ numberOf reply) (f : cut ≡ numberOf CutRecord) where
