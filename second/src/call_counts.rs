@@ -2,8 +2,9 @@
 
 use std::fmt;
 
+use crate::deeds::Deeds;
 use crate::node::Ticked;
-use crate::receiver::{Did, Happened, DEEDS};
+use crate::receiver::Happened;
 use crate::reply::{Reply, REPLIES};
 
 /// The five calls whose replies the tally counts.
@@ -51,7 +52,7 @@ pub struct CallCounts {
     /// Frames heard with a DLC of 9 to 16, each with eight bytes and with nine.
     pub high_dlcs: [[u64; 2]; 8],
     /// What frames that were heard did.
-    pub deeds: [u64; DEEDS],
+    pub deeds: Deeds,
     /// Lines `tick` that dropped none, one or several messages, by how many they delivered.
     pub ticks: [[u64; 3]; 3],
     pub aborts: u64,
@@ -86,12 +87,7 @@ impl CallCounts {
 
     /// What could occur and did not.
     pub fn missing(&self) -> Vec<String> {
-        let mut missing = Vec::new();
-        for did in Did::ALL {
-            if self.deeds[did as usize] == 0 {
-                missing.push(format!("hear never told {}", did.word()));
-            }
-        }
+        let mut missing = self.deeds.missing();
         for (dropped, row) in self.ticks.iter().enumerate() {
             for (delivered, count) in row.iter().enumerate() {
                 if *count == 0 {
@@ -135,11 +131,7 @@ impl fmt::Display for CallCounts {
             "  fresh nodes {}, aborts made pending {}, rollovers {}, lines that can't be read {}",
             self.nodes, self.aborts, self.rollovers, self.unreadable
         )?;
-        write!(f, "  frames that did:")?;
-        for did in Did::ALL {
-            write!(f, "  {} {}", did.word(), self.deeds[did as usize])?;
-        }
-        writeln!(f)?;
+        write!(f, "{}", self.deeds)?;
         write!(f, "  lines `tick` that delivered none, one, several:")?;
         for (dropped, row) in ["none", "one", "several"].iter().zip(&self.ticks) {
             write!(f, " {}, {}, {} dropping {dropped};", row[0], row[1], row[2])?;

@@ -190,7 +190,7 @@ impl Calls {
         self.seen.aborts += u64::from(heard.causes_abort);
         let told = match heard.did {
             Some(did) => {
-                self.seen.deeds[did as usize] += 1;
+                self.seen.deeds.count(did);
                 did.word()
             }
             None => "-",

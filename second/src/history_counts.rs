@@ -3,10 +3,10 @@
 use std::fmt;
 
 use crate::bench::{Delivery, Outcome};
+use crate::deeds::Deeds;
 use crate::demand::Looked;
 use crate::history::{Event, Hearers};
 use crate::random_histories::Made;
-use crate::receiver::{Did, DEEDS};
 use crate::reply::{Reply, REPLIES};
 use crate::rules::Break;
 
@@ -27,7 +27,7 @@ pub struct HistoryCounts {
     pub rolled: u64,
     pub deliveries: u64,
     /// What frames that were heard did.
-    pub deeds: [u64; DEEDS],
+    pub deeds: Deeds,
     /// Messages that ticks dropped, and ticks at which a module dropped several, or dropped and delivered.
     pub drops: u64,
     pub several: u64,
@@ -87,7 +87,7 @@ impl HistoryCounts {
             Outcome::Heard(hearings) => {
                 hearings.iter().for_each(|hearing| replied(hearing.reply));
                 self.deliveries += hearings.iter().filter(|hearing| hearing.delivered.is_some()).count() as u64;
-                hearings.iter().filter_map(|hearing| hearing.did).for_each(|did| self.deeds[did as usize] += 1);
+                hearings.iter().filter_map(|hearing| hearing.did).for_each(|did| self.deeds.count(did));
                 let full = matches!(event, Event::Send { hearers: Hearers::Full, .. });
                 self.full += u64::from(full);
                 self.short += u64::from(!full);
@@ -134,11 +134,7 @@ impl HistoryCounts {
         ];
         let mut missing: Vec<String> =
             counts.iter().filter(|(_, count)| *count == 0).map(|(what, _)| what.to_string()).collect();
-        for did in Did::ALL {
-            if self.deeds[did as usize] == 0 {
-                missing.push(format!("a frame that did {}", did.word()));
-            }
-        }
+        missing.extend(self.deeds.missing());
         for (rule, count) in self.broke.iter().enumerate() {
             if *count == 0 {
                 missing.push(format!("a history that breaks rule {rule}"));
@@ -179,11 +175,7 @@ impl fmt::Display for HistoryCounts {
             "  deliveries {}, aborts made pending {}, deaths {}, ticks {}",
             self.deliveries, self.aborts, self.deaths, self.ticks
         )?;
-        write!(f, "  frames that did:")?;
-        for did in Did::ALL {
-            write!(f, "  {} {}", did.word(), self.deeds[did as usize])?;
-        }
-        writeln!(f)?;
+        write!(f, "{}", self.deeds)?;
         writeln!(
             f,
             "  dropped by ticks {}; a module dropped several {} times, and dropped and delivered {} times",

@@ -45,11 +45,8 @@ pub enum Did {
     DeliveredAtOnce,
 }
 
-/// How many things a frame can do.
-pub const DEEDS: usize = 8;
-
 impl Did {
-    pub const ALL: [Did; DEEDS] = [
+    pub const ALL: [Did; 8] = [
         Did::New,
         Did::Duplicate,
         Did::Confirmed,
@@ -59,6 +56,11 @@ impl Did {
         Did::NothingToDrop,
         Did::DeliveredAtOnce,
     ];
+
+    /// The number by which it is told, from 1 on; 0 tells nothing.
+    pub fn number(self) -> usize {
+        self as usize + 1
+    }
 
     /// The word of both text formats.
     pub fn word(self) -> &'static str {
