@@ -21,7 +21,8 @@ typedef struct kosmydore_settings Settings;
 typedef struct settings Settings;
 typedef struct node Node;
 typedef struct answered Answered;
-typedef struct delivered Delivered;
+typedef struct heard Heard;
+typedef struct ticked Ticked;
 typedef struct given Given;
 #define SETTINGS(role, class_, rd, dc, ra, dd) ((Settings){rd, dc, ra, dd, role, class_})
 #define COUNTER_OF(node) ((node).counter)
@@ -41,7 +42,8 @@ typedef struct {
 typedef struct {
     uint32_t reply;
 } Answered;
-typedef struct kosmydore_written Delivered;
+typedef struct kosmydore_written Heard;
+typedef struct kosmydore_written Ticked;
 typedef struct kosmydore_given_out Given;
 
 static uint32_t tally[KOSMYDORE_TALLY_SIZE];
@@ -70,7 +72,8 @@ static inline Node fresh(void)
 
 typedef struct kosmydore_node Node;
 typedef struct kosmydore_answered Answered;
-typedef struct kosmydore_delivered Delivered;
+typedef struct kosmydore_delivered Heard;
+typedef struct kosmydore_delivered Ticked;
 typedef struct kosmydore_given Given;
 #define COUNTER_OF(node) ((node).counter)
 #define fresh kosmydore_fresh

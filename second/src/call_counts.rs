@@ -2,6 +2,9 @@
 
 use std::fmt;
 
+use crate::deeds::Deeds;
+use crate::node::Ticked;
+use crate::receiver::Happened;
 use crate::reply::{Reply, REPLIES};
 
 /// The five calls whose replies the tally counts.
@@ -48,7 +51,10 @@ pub struct CallCounts {
     pub nodes: u64,
     /// Frames heard with a DLC of 9 to 16, each with eight bytes and with nine.
     pub high_dlcs: [[u64; 2]; 8],
-    pub deliveries: u64,
+    /// What frames that were heard did.
+    pub deeds: Deeds,
+    /// Lines `tick` that dropped none, one or several messages, by how many they delivered.
+    pub ticks: [[u64; 3]; 3],
     pub aborts: u64,
     pub unreadable: u64,
     /// How often the 16-bit counter rolled over.
@@ -69,9 +75,26 @@ impl CallCounts {
         }
     }
 
+    pub fn ticked(&mut self, ticked: &Ticked) {
+        let caused = ticked.happened.iter().filter(|(_, happened)| *happened == Happened::AbortPending);
+        self.aborts += caused.count() as u64;
+    }
+
+    /// A tick whose drops and deliveries are told.
+    pub fn told(&mut self, ticked: &Ticked) {
+        self.ticks[ticked.dropped.min(2)][ticked.delivered.min(2)] += u64::from(ticked.reply == Reply::Done);
+    }
+
     /// What could occur and did not.
     pub fn missing(&self) -> Vec<String> {
-        let mut missing = Vec::new();
+        let mut missing = self.deeds.missing();
+        for (dropped, row) in self.ticks.iter().enumerate() {
+            for (delivered, count) in row.iter().enumerate() {
+                if *count == 0 {
+                    missing.push(format!("no line `tick` dropped {dropped} and delivered {delivered}, 2 for several"));
+                }
+            }
+        }
         for call in Call::ALL {
             for reply in Reply::ALL {
                 let number = reply.number();
@@ -94,12 +117,8 @@ impl CallCounts {
                 }
             }
         }
-        let counts = [
-            ("a delivery", self.deliveries),
-            ("an abort", self.aborts),
-            ("a line that can't be read", self.unreadable),
-            ("a rollover", self.rollovers),
-        ];
+        let counts =
+            [("an abort", self.aborts), ("a line that can't be read", self.unreadable), ("a rollover", self.rollovers)];
         missing.extend(counts.iter().filter(|(_, count)| *count == 0).map(|(what, _)| what.to_string()));
         missing
     }
@@ -109,9 +128,15 @@ impl fmt::Display for CallCounts {
     fn fmt(&self, f: &mut fmt::Formatter) -> fmt::Result {
         writeln!(
             f,
-            "  fresh nodes {}, deliveries {}, aborts made pending {}, rollovers {}, lines that can't be read {}",
-            self.nodes, self.deliveries, self.aborts, self.rollovers, self.unreadable
+            "  fresh nodes {}, aborts made pending {}, rollovers {}, lines that can't be read {}",
+            self.nodes, self.aborts, self.rollovers, self.unreadable
         )?;
+        write!(f, "{}", self.deeds)?;
+        write!(f, "  lines `tick` that delivered none, one, several:")?;
+        for (dropped, row) in ["none", "one", "several"].iter().zip(&self.ticks) {
+            write!(f, " {}, {}, {} dropping {dropped};", row[0], row[1], row[2])?;
+        }
+        writeln!(f)?;
         write!(f, "  set ups taken (receive, send):")?;
         for (name, row) in ["plain", "IMD", "2M"].iter().zip(&self.taken) {
             write!(f, " {name} {}, {};", row[0], row[1])?;

@@ -57,6 +57,17 @@ faults! {
     OneFaultOfFrames, "one-fault-of-frames", "every fault in a frame is answered 4";
     SendSlotHears, "send-slot-hears", "a frame of a send slot is answered 0";
     TickDeliversOne, "tick-delivers-one", "a tick delivers one message at most";
+    // What is told.
+    DuplicateIsNew, "duplicate-is-new", "a duplicate is told as new";
+    AgainIsConfirmed, "again-is-confirmed", "confirmed is told for confirmed again";
+    PendingToldOnce, "pending-told-once", "an abort that is pending already is told as nothing to drop";
+    ConfirmedDropUntold, "confirmed-drop-untold", "an abort that drops a confirmed message is told as nothing to drop";
+    RefusalTells, "refusal-tells", "a refused frame is told as new";
+    DropsCountDelivered, "drops-count-delivered", "what a tick delivers is counted among the dropped";
+    DeliveredCountDrops, "delivered-count-drops", "what a tick drops is counted among the delivered";
+    OneDropTold, "one-drop-told", "a tick tells one drop at most";
+    HoldIsDrop, "hold-is-drop", "the end of a hold is counted as a drop";
+    HoldIsDelivery, "hold-is-delivery", "the end of a hold is counted as a delivery";
     // Frames given out.
     AbortTwice, "abort-twice", "a pending abort that was caused twice is given out twice";
     BusyMissesPending, "busy-misses-pending", "Busy does not look at pending frames";

@@ -138,7 +138,7 @@ impl<'a> Account<'a> {
                 (Event::Death { module }, _) => {
                     account.died[*module].get_or_insert(account.count);
                 }
-                (_, Outcome::Ticked { count, delivered }) => {
+                (_, Outcome::Ticked { count, delivered, .. }) => {
                     for delivery in delivered {
                         let message = account.newest(delivery.stream);
                         account.deliveries.push((delivery.clone(), message));

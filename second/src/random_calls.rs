@@ -92,7 +92,8 @@ impl Maker<'_> {
             50..=62 => self.wait(),
             63..=75 => self.request(),
             76..=90 => self.next(),
-            91..=93 => self.set_up(),
+            91..=92 => self.set_up(),
+            93 => self.volley(),
             94 => self.say("tally"),
             _ => self.unreadable(),
         }
@@ -250,6 +251,25 @@ impl Maker<'_> {
         self.budget = self.budget.saturating_sub(number);
         self.now += number;
         self.say(format!("ticks {number}"));
+    }
+
+    /// Data for all receivers at one tick, some of it confirmed, and then ticks one by one: some come due together.
+    fn volley(&mut self) {
+        for at in 0..self.known.len() {
+            let (asked, data) = (self.known[at].asked, self.known[at].payloads[0].clone());
+            if asked.role != 0 || asked.class == 0 {
+                continue;
+            }
+            let id = asked.stream.wrapping_mul(4);
+            self.say(format!("hear {id} {} {} 16", data.len(), hex(&data)));
+            if asked.class == 2 && self.random.percent(40) {
+                self.say(format!("hear {} 0 - 16", id.wrapping_add(1)));
+            }
+            self.known[at].touched = self.now;
+        }
+        for _ in 0..self.random.from(2, 16) {
+            self.tick();
+        }
     }
 
     /// Ticks up to a moment that matters to a stream, or a few, or very many; then often a call for that stream.
