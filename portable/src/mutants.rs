@@ -100,7 +100,7 @@ fn chosen_line(line: &str, from: usize, changes: &[(usize, &Change)]) -> Option<
     } else {
         let end = words.strip_suffix(';').map(|_| line.len() - 1)?;
         let declares = ["uint", "bool", "struct"].iter().any(|word| words.starts_with(word));
-        if words.starts_with("return") || words == ";" {
+        if words.starts_with("return") || words.starts_with("static ") || words == ";" {
             return None;
         }
         match (declares, line.find(" = ")) {

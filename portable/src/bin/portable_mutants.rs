@@ -47,14 +47,14 @@ impl Trial {
     /// A comparison over this C file, and one under the sanitizers; none where it can't be compiled.
     fn compiled(&self, c: &str) -> Option<Mutant> {
         fs::write(self.path("mutant.c"), c).ok()?;
-        let program = self.program("mutant", "pattern", &[])?;
+        let program = self.program("mutant", "gcc", "zero", &[])?;
         Some(Mutant { program, number: 0, sanitized: None })
     }
 
     /// A local that is not written holds what is chosen here, so that it is not right by chance.
-    fn program(&self, name: &str, unwritten: &str, words: &[&str]) -> Option<String> {
+    fn program(&self, name: &str, compiler: &str, unwritten: &str, words: &[&str]) -> Option<String> {
         let (source, program) = (self.path("mutant.c"), self.path(name));
-        let mut compiler = Command::new("gcc");
+        let mut compiler = Command::new(compiler);
         // Without optimization: a compiler may take a store that is left out for one of any value, the right one too.
         compiler.args(["-std=c99", "-w", "-O0", "-o", &program, &source]).args(words);
         if self.fills {
@@ -62,6 +62,13 @@ impl Trial {
         }
         compiler.args(&self.names).args(&self.link);
         compiler.stderr(Stdio::null()).status().ok()?.success().then_some(program)
+    }
+
+    /// By clang where it is there: gcc fills a bool with zeros always.
+    fn sanitized(&self) -> Option<String> {
+        let words = ["-fsanitize=address,undefined", "-fno-sanitize-recover=all"];
+        let by = |compiler| self.program("sanitized", compiler, "pattern", &words);
+        by("clang").or_else(|| by("gcc"))
     }
 
     /// Whether the comparison differs, or the sanitizers stop it. Of one that is listed only the first calls are made.
@@ -73,8 +80,7 @@ impl Trial {
             return Some(false);
         }
         if mutant.sanitized.is_none() {
-            let sanitizers = ["-fsanitize=address,undefined", "-fno-sanitize-recover=all"];
-            mutant.sanitized = self.program("sanitized", "zero", &sanitizers);
+            mutant.sanitized = self.sanitized();
         }
         Some(
             self.differs(mutant.sanitized.as_ref()?, mutant.number, self.calls)?
@@ -143,7 +149,8 @@ impl Unseen {
 
     /// The listed changes that the program or the C file no longer has, and, where all were tried, those that are found.
     fn stale(&self, there: &BTreeSet<String>, all: bool) -> Vec<(&'static str, &String)> {
-        let gone = self.listed().filter(|name| !there.contains(*name)).map(|name| ("no longer there to be changed", name));
+        let gone =
+            self.listed().filter(|name| !there.contains(*name)).map(|name| ("no longer there to be changed", name));
         let found = self.listed().filter(|name| all && self.tried.get(*name) == Some(&false));
         gone.chain(found.map(|name| ("found, and needs no reason", name))).collect()
     }
@@ -358,7 +365,8 @@ fn run(words: &[String]) -> Result<bool, String> {
     }
 
     let (of_program, of_file) = (of_mir(&text), of_c(&c));
-    let there = of_program.iter().map(|change| in_mir(&text, change)).chain(of_file.iter().map(|change| in_c(&c, change)));
+    let there =
+        of_program.iter().map(|change| in_mir(&text, change)).chain(of_file.iter().map(|change| in_c(&c, change)));
     let there: BTreeSet<String> = there.collect();
     let all = of_mir_count >= of_program.len() && of_c_count >= of_file.len();
     let (program_count, file_count) = (of_program.len(), of_file.len());
