@@ -154,8 +154,15 @@ KD_SIZE(kosmydore_answered, 1032);
 KD_FIELD(kosmydore_answered, node, 0, 1028);
 KD_FIELD(kosmydore_answered, reply, 1028, 4);
 
+/* Where speed is asked for, each function stands in its caller: that saves the copies between them. */
+#if defined __GNUC__ && defined __OPTIMIZE__ && !defined __OPTIMIZE_SIZE__
+#define KD_STATIC static inline __attribute__((always_inline))
+#else
+#define KD_STATIC static
+#endif
+
 /* wire::ids::Stream::join */
-static struct kd_wire_ids_Joined kd_wire_ids_Stream_join(uint32_t v1, uint32_t v2)
+KD_STATIC struct kd_wire_ids_Joined kd_wire_ids_Stream_join(uint32_t v1, uint32_t v2)
 {
     struct kd_wire_ids_Joined v0;
 
@@ -181,7 +188,7 @@ static struct kd_wire_ids_Joined kd_wire_ids_Stream_join(uint32_t v1, uint32_t v
 }
 
 /* wire::reply::Reply::number */
-static uint32_t kd_wire_reply_Reply_number(uint8_t v1)
+KD_STATIC uint32_t kd_wire_reply_Reply_number(uint8_t v1)
 {
     uint32_t v0;
     uint32_t v2;
@@ -270,7 +277,7 @@ uint32_t kosmydore_join(uint32_t stream, uint32_t code)
 }
 
 /* wire::ids::BusId::split */
-static struct kd_wire_ids_Parts kd_wire_ids_BusId_split(uint32_t v1)
+KD_STATIC struct kd_wire_ids_Parts kd_wire_ids_BusId_split(uint32_t v1)
 {
     struct kd_wire_ids_Parts v0;
 
@@ -330,7 +337,7 @@ uint32_t kosmydore_split_code(uint32_t id)
 }
 
 /* wire::settings::legal_numbers */
-static bool kd_wire_settings_legal_numbers(uint32_t v1, uint32_t v2, uint32_t v3, uint32_t v4, uint32_t v5,
+KD_STATIC bool kd_wire_settings_legal_numbers(uint32_t v1, uint32_t v2, uint32_t v3, uint32_t v4, uint32_t v5,
     uint32_t v6, uint32_t v7)
 {
     bool v0;
@@ -410,7 +417,7 @@ uint32_t kosmydore_settings_reply(uint32_t stream, uint32_t role, uint32_t class
 }
 
 /* wire::delivered::record_length */
-static struct kd_wire_delivered_RecordLength kd_wire_delivered_record_length(uint32_t v1)
+KD_STATIC struct kd_wire_delivered_RecordLength kd_wire_delivered_record_length(uint32_t v1)
 {
     struct kd_wire_delivered_RecordLength v0;
 
@@ -452,7 +459,7 @@ uint32_t kosmydore_record_length(uint32_t payload_length)
 }
 
 /* node_bytes::layout::is_node */
-static bool kd_node_bytes_layout_is_node(uint64_t v1)
+KD_STATIC bool kd_node_bytes_layout_is_node(uint64_t v1)
 {
     bool v0;
 
@@ -461,7 +468,7 @@ static bool kd_node_bytes_layout_is_node(uint64_t v1)
 }
 
 /* node_bytes::fresh::clear */
-static void kd_node_bytes_fresh_clear(struct kd_slice v1)
+KD_STATIC void kd_node_bytes_fresh_clear(struct kd_slice v1)
 {
     uint64_t v2 = UINT64_C(0);
     for (;;) {
@@ -478,7 +485,7 @@ static void kd_node_bytes_fresh_clear(struct kd_slice v1)
 }
 
 /* node_bytes::fresh::fresh */
-static uint8_t kd_node_bytes_fresh_fresh(struct kd_slice v1)
+KD_STATIC uint8_t kd_node_bytes_fresh_fresh(struct kd_slice v1)
 {
     uint8_t v0;
 
@@ -513,8 +520,8 @@ uint32_t kosmydore_module_fresh(uint8_t *node, size_t node_length)
 }
 
 /* wire::settings::Settings::of */
-static struct kosmydore_slot_settings kd_wire_settings_Settings_of(uint8_t v1, uint8_t v2, uint16_t v3, uint16_t v4,
-    uint16_t v5, uint16_t v6)
+KD_STATIC struct kosmydore_slot_settings kd_wire_settings_Settings_of(uint8_t v1, uint8_t v2, uint16_t v3,
+    uint16_t v4, uint16_t v5, uint16_t v6)
 {
     struct kosmydore_slot_settings v0;
 
@@ -528,7 +535,7 @@ static struct kosmydore_slot_settings kd_wire_settings_Settings_of(uint8_t v1, u
 }
 
 /* wire::settings::Settings::of_plain */
-static struct kosmydore_slot_settings kd_wire_settings_Settings_of_plain(uint8_t v1)
+KD_STATIC struct kosmydore_slot_settings kd_wire_settings_Settings_of_plain(uint8_t v1)
 {
     struct kosmydore_slot_settings v0;
 
@@ -537,7 +544,7 @@ static struct kosmydore_slot_settings kd_wire_settings_Settings_of_plain(uint8_t
 }
 
 /* firmware::judged::settings_of */
-static struct kosmydore_slot_settings kd_firmware_judged_settings_of(uint32_t v1, struct kosmydore_settings v2)
+KD_STATIC struct kosmydore_slot_settings kd_firmware_judged_settings_of(uint32_t v1, struct kosmydore_settings v2)
 {
     struct kosmydore_slot_settings v0;
 
@@ -557,7 +564,7 @@ static struct kosmydore_slot_settings kd_firmware_judged_settings_of(uint32_t v1
 }
 
 /* wire::settings::Settings::legal */
-static bool kd_wire_settings_Settings_legal(struct kosmydore_slot_settings v1, uint32_t v2)
+KD_STATIC bool kd_wire_settings_Settings_legal(struct kosmydore_slot_settings v1, uint32_t v2)
 {
     bool v0;
 
@@ -572,7 +579,7 @@ static bool kd_wire_settings_Settings_legal(struct kosmydore_slot_settings v1, u
 }
 
 /* node_bytes::numbers::flag_at */
-static bool kd_node_bytes_numbers_flag_at(struct kd_slice v1, uint64_t v2)
+KD_STATIC bool kd_node_bytes_numbers_flag_at(struct kd_slice v1, uint64_t v2)
 {
     bool v0;
 
@@ -583,7 +590,7 @@ static bool kd_node_bytes_numbers_flag_at(struct kd_slice v1, uint64_t v2)
 }
 
 /* node_bytes::numbers::wide32 */
-static uint32_t kd_node_bytes_numbers_wide32(uint8_t v1)
+KD_STATIC uint32_t kd_node_bytes_numbers_wide32(uint8_t v1)
 {
     uint32_t v0;
 
@@ -592,7 +599,7 @@ static uint32_t kd_node_bytes_numbers_wide32(uint8_t v1)
 }
 
 /* node_bytes::numbers::four_at */
-static uint32_t kd_node_bytes_numbers_four_at(struct kd_slice v1, uint64_t v2)
+KD_STATIC uint32_t kd_node_bytes_numbers_four_at(struct kd_slice v1, uint64_t v2)
 {
     uint32_t v0;
 
@@ -621,7 +628,7 @@ static uint32_t kd_node_bytes_numbers_four_at(struct kd_slice v1, uint64_t v2)
 }
 
 /* node_bytes::slots::of_at */
-static bool kd_node_bytes_slots_of_at(struct kd_slice v1, uint64_t v2, uint32_t v3)
+KD_STATIC bool kd_node_bytes_slots_of_at(struct kd_slice v1, uint64_t v2, uint32_t v3)
 {
     bool v0;
 
@@ -636,7 +643,7 @@ static bool kd_node_bytes_slots_of_at(struct kd_slice v1, uint64_t v2, uint32_t 
 }
 
 /* node_bytes::finding::find */
-static uint64_t kd_node_bytes_finding_find(struct kd_slice v1, uint32_t v2)
+KD_STATIC uint64_t kd_node_bytes_finding_find(struct kd_slice v1, uint32_t v2)
 {
     uint64_t v0;
 
@@ -658,7 +665,7 @@ static uint64_t kd_node_bytes_finding_find(struct kd_slice v1, uint32_t v2)
 }
 
 /* node_bytes::slots::free_at */
-static bool kd_node_bytes_slots_free_at(struct kd_slice v1, uint64_t v2)
+KD_STATIC bool kd_node_bytes_slots_free_at(struct kd_slice v1, uint64_t v2)
 {
     bool v0;
 
@@ -670,7 +677,7 @@ static bool kd_node_bytes_slots_free_at(struct kd_slice v1, uint64_t v2)
 }
 
 /* node_bytes::finding::find_free */
-static uint64_t kd_node_bytes_finding_find_free(struct kd_slice v1)
+KD_STATIC uint64_t kd_node_bytes_finding_find_free(struct kd_slice v1)
 {
     uint64_t v0;
 
@@ -692,7 +699,7 @@ static uint64_t kd_node_bytes_finding_find_free(struct kd_slice v1)
 }
 
 /* node_bytes::slots::after_at */
-static bool kd_node_bytes_slots_after_at(struct kd_slice v1, uint64_t v2, uint32_t v3)
+KD_STATIC bool kd_node_bytes_slots_after_at(struct kd_slice v1, uint64_t v2, uint32_t v3)
 {
     bool v0;
 
@@ -708,7 +715,7 @@ static bool kd_node_bytes_slots_after_at(struct kd_slice v1, uint64_t v2, uint32
 }
 
 /* node_bytes::finding::find_place */
-static uint64_t kd_node_bytes_finding_find_place(struct kd_slice v1, uint32_t v2)
+KD_STATIC uint64_t kd_node_bytes_finding_find_place(struct kd_slice v1, uint32_t v2)
 {
     uint64_t v0;
 
@@ -730,7 +737,7 @@ static uint64_t kd_node_bytes_finding_find_place(struct kd_slice v1, uint32_t v2
 }
 
 /* node_bytes::numbers::eight_at */
-static struct kd_u8_8 kd_node_bytes_numbers_eight_at(struct kd_slice v1, uint64_t v2)
+KD_STATIC struct kd_u8_8 kd_node_bytes_numbers_eight_at(struct kd_slice v1, uint64_t v2)
 {
     struct kd_u8_8 v0;
 
@@ -769,7 +776,7 @@ static struct kd_u8_8 kd_node_bytes_numbers_eight_at(struct kd_slice v1, uint64_
 }
 
 /* node_bytes::numbers::put_eight */
-static void kd_node_bytes_numbers_put_eight(struct kd_slice v1, uint64_t v2, struct kd_u8_8 v3)
+KD_STATIC void kd_node_bytes_numbers_put_eight(struct kd_slice v1, uint64_t v2, struct kd_u8_8 v3)
 {
     struct kd_u8_8 v4;
 
@@ -825,7 +832,7 @@ static void kd_node_bytes_numbers_put_eight(struct kd_slice v1, uint64_t v2, str
 }
 
 /* node_bytes::slots::copy_up */
-static void kd_node_bytes_slots_copy_up(struct kd_slice v1, uint64_t v2)
+KD_STATIC void kd_node_bytes_slots_copy_up(struct kd_slice v1, uint64_t v2)
 {
     uint64_t v3 = UINT64_C(32) * v2;
     uint64_t v4 = UINT64_C(32) + v3;
@@ -881,7 +888,7 @@ static void kd_node_bytes_slots_copy_up(struct kd_slice v1, uint64_t v2)
 }
 
 /* node_bytes::set_up::move_up */
-static void kd_node_bytes_set_up_move_up(struct kd_slice v1, uint64_t v2, uint64_t v3)
+KD_STATIC void kd_node_bytes_set_up_move_up(struct kd_slice v1, uint64_t v2, uint64_t v3)
 {
     uint64_t v4 = v3;
     for (;;) {
@@ -900,7 +907,7 @@ static void kd_node_bytes_set_up_move_up(struct kd_slice v1, uint64_t v2, uint64
 }
 
 /* node::slots::Slot::set_up */
-static struct kosmydore_slot kd_node_slots_Slot_set_up(uint32_t v1, struct kosmydore_slot_settings v2)
+KD_STATIC struct kosmydore_slot kd_node_slots_Slot_set_up(uint32_t v1, struct kosmydore_slot_settings v2)
 {
     struct kosmydore_slot v0;
 
@@ -927,7 +934,7 @@ static struct kosmydore_slot kd_node_slots_Slot_set_up(uint32_t v1, struct kosmy
 }
 
 /* node_bytes::numbers::flag */
-static uint8_t kd_node_bytes_numbers_flag(bool v1)
+KD_STATIC uint8_t kd_node_bytes_numbers_flag(bool v1)
 {
     uint8_t v0;
     uint8_t v3;
@@ -943,7 +950,7 @@ static uint8_t kd_node_bytes_numbers_flag(bool v1)
 }
 
 /* node_bytes::slots::key_row */
-static struct kd_u8_8 kd_node_bytes_slots_key_row(struct kosmydore_slot v1)
+KD_STATIC struct kd_u8_8 kd_node_bytes_slots_key_row(struct kosmydore_slot v1)
 {
     struct kd_u8_8 v0;
 
@@ -979,7 +986,7 @@ static struct kd_u8_8 kd_node_bytes_slots_key_row(struct kosmydore_slot v1)
 }
 
 /* node_bytes::slots::state_row */
-static struct kd_u8_8 kd_node_bytes_slots_state_row(struct kosmydore_slot v1)
+KD_STATIC struct kd_u8_8 kd_node_bytes_slots_state_row(struct kosmydore_slot v1)
 {
     struct kd_u8_8 v0;
 
@@ -999,7 +1006,7 @@ static struct kd_u8_8 kd_node_bytes_slots_state_row(struct kosmydore_slot v1)
 }
 
 /* node_bytes::slots::reach_row */
-static struct kd_u8_8 kd_node_bytes_slots_reach_row(struct kosmydore_slot_settings v1)
+KD_STATIC struct kd_u8_8 kd_node_bytes_slots_reach_row(struct kosmydore_slot_settings v1)
 {
     struct kd_u8_8 v0;
 
@@ -1035,7 +1042,7 @@ static struct kd_u8_8 kd_node_bytes_slots_reach_row(struct kosmydore_slot_settin
 }
 
 /* node_bytes::slots::put_slot */
-static void kd_node_bytes_slots_put_slot(struct kd_slice v1, uint64_t v2, struct kosmydore_slot v3)
+KD_STATIC void kd_node_bytes_slots_put_slot(struct kd_slice v1, uint64_t v2, struct kosmydore_slot v3)
 {
     uint64_t v4 = UINT64_C(32) * v2;
     uint8_t *v7 = v1.at;
@@ -1071,7 +1078,7 @@ static void kd_node_bytes_slots_put_slot(struct kd_slice v1, uint64_t v2, struct
 }
 
 /* node_bytes::set_up::set_up */
-static uint8_t kd_node_bytes_set_up_set_up(struct kd_slice v1, uint32_t v2, struct kosmydore_slot_settings v3)
+KD_STATIC uint8_t kd_node_bytes_set_up_set_up(struct kd_slice v1, uint32_t v2, struct kosmydore_slot_settings v3)
 {
     uint8_t v0;
 
@@ -1128,7 +1135,7 @@ static uint8_t kd_node_bytes_set_up_set_up(struct kd_slice v1, uint32_t v2, stru
 }
 
 /* module::tally::Tally::place_of */
-static uint64_t kd_module_tally_Tally_place_of(uint32_t v1)
+KD_STATIC uint64_t kd_module_tally_Tally_place_of(uint32_t v1)
 {
     uint64_t v0;
     static const struct kd_u32_13 v4 = {{UINT32_C(0), UINT32_C(1), UINT32_C(2), UINT32_C(3), UINT32_C(4), UINT32_C(5), UINT32_C(6), UINT32_C(7), UINT32_C(8), UINT32_C(9), UINT32_C(10), UINT32_C(11), UINT32_C(12)}};
@@ -1155,7 +1162,7 @@ static uint64_t kd_module_tally_Tally_place_of(uint32_t v1)
 }
 
 /* module::tally::count_in */
-static bool kd_module_tally_count_in(struct kd_slice v1, uint32_t v2)
+KD_STATIC bool kd_module_tally_count_in(struct kd_slice v1, uint32_t v2)
 {
     bool v0;
 
@@ -1214,7 +1221,7 @@ uint32_t kosmydore_module_set_up(uint8_t *node, size_t node_length, uint32_t str
 }
 
 /* firmware::judged::dlc_of */
-static uint8_t kd_firmware_judged_dlc_of(uint32_t v1)
+KD_STATIC uint8_t kd_firmware_judged_dlc_of(uint32_t v1)
 {
     uint8_t v0;
     uint8_t v4;
@@ -1231,7 +1238,7 @@ static uint8_t kd_firmware_judged_dlc_of(uint32_t v1)
 }
 
 /* wire::frame::at_most_payload */
-static uint64_t kd_wire_frame_at_most_payload(uint64_t v1)
+KD_STATIC uint64_t kd_wire_frame_at_most_payload(uint64_t v1)
 {
     uint64_t v0;
     uint64_t v3;
@@ -1247,7 +1254,7 @@ static uint64_t kd_wire_frame_at_most_payload(uint64_t v1)
 }
 
 /* wire::frame::bad_frame */
-static bool kd_wire_frame_bad_frame(uint32_t v1, uint8_t v2, struct kd_slice v3)
+KD_STATIC bool kd_wire_frame_bad_frame(uint32_t v1, uint8_t v2, struct kd_slice v3)
 {
     bool v0;
 
@@ -1271,7 +1278,7 @@ static bool kd_wire_frame_bad_frame(uint32_t v1, uint8_t v2, struct kd_slice v3)
 }
 
 /* node_bytes::numbers::wide16 */
-static uint16_t kd_node_bytes_numbers_wide16(uint8_t v1)
+KD_STATIC uint16_t kd_node_bytes_numbers_wide16(uint8_t v1)
 {
     uint16_t v0;
 
@@ -1280,7 +1287,7 @@ static uint16_t kd_node_bytes_numbers_wide16(uint8_t v1)
 }
 
 /* node_bytes::numbers::two_at */
-static uint16_t kd_node_bytes_numbers_two_at(struct kd_slice v1, uint64_t v2)
+KD_STATIC uint16_t kd_node_bytes_numbers_two_at(struct kd_slice v1, uint64_t v2)
 {
     uint16_t v0;
 
@@ -1297,7 +1304,7 @@ static uint16_t kd_node_bytes_numbers_two_at(struct kd_slice v1, uint64_t v2)
 }
 
 /* node_bytes::slots::settings_from */
-static struct kosmydore_slot_settings kd_node_bytes_slots_settings_from(struct kd_slice v1, uint64_t v2)
+KD_STATIC struct kosmydore_slot_settings kd_node_bytes_slots_settings_from(struct kd_slice v1, uint64_t v2)
 {
     struct kosmydore_slot_settings v0;
 
@@ -1320,7 +1327,7 @@ static struct kosmydore_slot_settings kd_node_bytes_slots_settings_from(struct k
 }
 
 /* node_bytes::slots::message_from */
-static struct kosmydore_message kd_node_bytes_slots_message_from(struct kd_slice v1, uint64_t v2)
+KD_STATIC struct kosmydore_message kd_node_bytes_slots_message_from(struct kd_slice v1, uint64_t v2)
 {
     struct kosmydore_message v0;
 
@@ -1344,7 +1351,7 @@ static struct kosmydore_message kd_node_bytes_slots_message_from(struct kd_slice
 }
 
 /* node_bytes::slots::pending_from */
-static struct kosmydore_pending kd_node_bytes_slots_pending_from(struct kd_slice v1, uint64_t v2)
+KD_STATIC struct kosmydore_pending kd_node_bytes_slots_pending_from(struct kd_slice v1, uint64_t v2)
 {
     struct kosmydore_pending v0;
 
@@ -1361,7 +1368,7 @@ static struct kosmydore_pending kd_node_bytes_slots_pending_from(struct kd_slice
 }
 
 /* node_bytes::slots::slot_at */
-static struct kosmydore_slot kd_node_bytes_slots_slot_at(struct kd_slice v1, uint64_t v2)
+KD_STATIC struct kosmydore_slot kd_node_bytes_slots_slot_at(struct kd_slice v1, uint64_t v2)
 {
     struct kosmydore_slot v0;
 
@@ -1383,7 +1390,7 @@ static struct kosmydore_slot kd_node_bytes_slots_slot_at(struct kd_slice v1, uin
 }
 
 /* node::slots::Slot::is_receiver */
-static bool kd_node_slots_Slot_is_receiver(struct kosmydore_slot v1)
+KD_STATIC bool kd_node_slots_Slot_is_receiver(struct kosmydore_slot v1)
 {
     bool v0;
 
@@ -1393,7 +1400,7 @@ static bool kd_node_slots_Slot_is_receiver(struct kosmydore_slot v1)
 }
 
 /* wire::class::carries */
-static bool kd_wire_class_carries(uint8_t v1, uint32_t v2)
+KD_STATIC bool kd_wire_class_carries(uint8_t v1, uint32_t v2)
 {
     bool v0;
     static const struct kd_bool_4_3 v7 = {{{{false, false, false, true}}, {{true, false, false, false}}, {{true, true, true, false}}}};
@@ -1419,7 +1426,7 @@ static bool kd_wire_class_carries(uint8_t v1, uint32_t v2)
 }
 
 /* node::slots::Message::same */
-static bool kd_node_slots_Message_same(struct kosmydore_message v1, struct kd_slice v2)
+KD_STATIC bool kd_node_slots_Message_same(struct kosmydore_message v1, struct kd_slice v2)
 {
     bool v0;
     struct kd_u8_8 v4;
@@ -1460,7 +1467,7 @@ static bool kd_node_slots_Message_same(struct kosmydore_message v1, struct kd_sl
 }
 
 /* node::slots::Slot::clashes */
-static bool kd_node_slots_Slot_clashes(struct kosmydore_slot v1, uint32_t v2, struct kd_slice v3)
+KD_STATIC bool kd_node_slots_Slot_clashes(struct kosmydore_slot v1, uint32_t v2, struct kd_slice v3)
 {
     bool v0;
 
@@ -1474,7 +1481,7 @@ static bool kd_node_slots_Slot_clashes(struct kosmydore_slot v1, uint32_t v2, st
 }
 
 /* node::slots::Slot::hear_reply */
-static uint8_t kd_node_slots_Slot_hear_reply(struct kosmydore_slot v1, uint32_t v2, struct kd_slice v3)
+KD_STATIC uint8_t kd_node_slots_Slot_hear_reply(struct kosmydore_slot v1, uint32_t v2, struct kd_slice v3)
 {
     uint8_t v0;
 
@@ -1500,7 +1507,7 @@ static uint8_t kd_node_slots_Slot_hear_reply(struct kosmydore_slot v1, uint32_t 
 }
 
 /* node_bytes::counter::counter_of */
-static uint16_t kd_node_bytes_counter_counter_of(struct kd_slice v1)
+KD_STATIC uint16_t kd_node_bytes_counter_counter_of(struct kd_slice v1)
 {
     uint16_t v0;
 
@@ -1509,7 +1516,7 @@ static uint16_t kd_node_bytes_counter_counter_of(struct kd_slice v1)
 }
 
 /* node::slots::pad */
-static struct kd_u8_8 kd_node_slots_pad(struct kd_slice v1)
+KD_STATIC struct kd_u8_8 kd_node_slots_pad(struct kd_slice v1)
 {
     struct kd_u8_8 v0;
     struct kd_u8_8 v3;
@@ -1537,7 +1544,7 @@ static struct kd_u8_8 kd_node_slots_pad(struct kd_slice v1)
 }
 
 /* node::slots::Message::holding */
-static struct kosmydore_message kd_node_slots_Message_holding(uint16_t v1, struct kd_slice v2)
+KD_STATIC struct kosmydore_message kd_node_slots_Message_holding(uint16_t v1, struct kd_slice v2)
 {
     struct kosmydore_message v0;
 
@@ -1554,7 +1561,8 @@ static struct kosmydore_message kd_node_slots_Message_holding(uint16_t v1, struc
 }
 
 /* node::slots::Slot::hear_data */
-static struct kosmydore_slot kd_node_slots_Slot_hear_data(struct kosmydore_slot v1, uint16_t v2, struct kd_slice v3)
+KD_STATIC struct kosmydore_slot kd_node_slots_Slot_hear_data(struct kosmydore_slot v1, uint16_t v2,
+    struct kd_slice v3)
 {
     struct kosmydore_slot v0;
 
@@ -1573,7 +1581,7 @@ static struct kosmydore_slot kd_node_slots_Slot_hear_data(struct kosmydore_slot 
 }
 
 /* node::slots::Slot::hear_confirmation */
-static struct kosmydore_slot kd_node_slots_Slot_hear_confirmation(struct kosmydore_slot v1)
+KD_STATIC struct kosmydore_slot kd_node_slots_Slot_hear_confirmation(struct kosmydore_slot v1)
 {
     struct kosmydore_slot v0;
 
@@ -1593,7 +1601,7 @@ static struct kosmydore_slot kd_node_slots_Slot_hear_confirmation(struct kosmydo
 }
 
 /* node::slots::Slot::hear_abort */
-static struct kosmydore_slot kd_node_slots_Slot_hear_abort(struct kosmydore_slot v1)
+KD_STATIC struct kosmydore_slot kd_node_slots_Slot_hear_abort(struct kosmydore_slot v1)
 {
     struct kosmydore_slot v0;
 
@@ -1618,7 +1626,7 @@ static struct kosmydore_slot kd_node_slots_Slot_hear_abort(struct kosmydore_slot
 }
 
 /* node::slots::Slot::hear */
-static struct kosmydore_slot kd_node_slots_Slot_hear(struct kosmydore_slot v1, uint16_t v2, uint32_t v3,
+KD_STATIC struct kosmydore_slot kd_node_slots_Slot_hear(struct kosmydore_slot v1, uint16_t v2, uint32_t v3,
     struct kd_slice v4)
 {
     struct kosmydore_slot v0;
@@ -1647,7 +1655,7 @@ static struct kosmydore_slot kd_node_slots_Slot_hear(struct kosmydore_slot v1, u
 }
 
 /* wire::delivered::put_record */
-static uint64_t kd_wire_delivered_put_record(struct kd_slice v1, uint32_t v2, struct kd_slice v3, uint64_t v4)
+KD_STATIC uint64_t kd_wire_delivered_put_record(struct kd_slice v1, uint32_t v2, struct kd_slice v3, uint64_t v4)
 {
     uint64_t v0;
 
@@ -1700,7 +1708,7 @@ static uint64_t kd_wire_delivered_put_record(struct kd_slice v1, uint32_t v2, st
 }
 
 /* wire::delivered::write_record */
-static uint64_t kd_wire_delivered_write_record(struct kd_slice v1, uint32_t v2, struct kd_slice v3)
+KD_STATIC uint64_t kd_wire_delivered_write_record(struct kd_slice v1, uint32_t v2, struct kd_slice v3)
 {
     uint64_t v0;
 
@@ -1722,7 +1730,7 @@ static uint64_t kd_wire_delivered_write_record(struct kd_slice v1, uint32_t v2, 
 }
 
 /* node::hear::deliver_plain */
-static uint64_t kd_node_hear_deliver_plain(struct kd_slice v1, uint32_t v2, uint32_t v3, struct kd_slice v4)
+KD_STATIC uint64_t kd_node_hear_deliver_plain(struct kd_slice v1, uint32_t v2, uint32_t v3, struct kd_slice v4)
 {
     uint64_t v0;
 
@@ -1740,7 +1748,7 @@ static uint64_t kd_node_hear_deliver_plain(struct kd_slice v1, uint32_t v2, uint
 }
 
 /* node_bytes::hear::hear */
-static struct kd_node_bytes_Written kd_node_bytes_hear_hear(struct kd_slice v1, uint32_t v2, uint8_t v3,
+KD_STATIC struct kd_node_bytes_Written kd_node_bytes_hear_hear(struct kd_slice v1, uint32_t v2, uint8_t v3,
     struct kd_slice v4, struct kd_slice v5)
 {
     struct kd_node_bytes_Written v0;
@@ -1853,7 +1861,7 @@ struct kosmydore_written kosmydore_module_hear(uint8_t *node, size_t node_length
 }
 
 /* std::num::wrapping_add_u16 */
-static uint16_t kd_std_num_wrapping_add_u16(uint16_t v1, uint16_t v2)
+KD_STATIC uint16_t kd_std_num_wrapping_add_u16(uint16_t v1, uint16_t v2)
 {
     uint16_t v0;
     uint16_t v5;
@@ -1872,7 +1880,7 @@ static uint16_t kd_std_num_wrapping_add_u16(uint16_t v1, uint16_t v2)
 }
 
 /* node::tick::next */
-static uint16_t kd_node_tick_next(uint16_t v1)
+KD_STATIC uint16_t kd_node_tick_next(uint16_t v1)
 {
     uint16_t v0;
 
@@ -1881,7 +1889,7 @@ static uint16_t kd_node_tick_next(uint16_t v1)
 }
 
 /* node_bytes::numbers::put_two */
-static void kd_node_bytes_numbers_put_two(struct kd_slice v1, uint64_t v2, uint16_t v3)
+KD_STATIC void kd_node_bytes_numbers_put_two(struct kd_slice v1, uint64_t v2, uint16_t v3)
 {
     uint16_t v4 = (uint16_t)((uint32_t)v3 % 256u);
     uint8_t v5 = (uint8_t)v4;
@@ -1897,7 +1905,7 @@ static void kd_node_bytes_numbers_put_two(struct kd_slice v1, uint64_t v2, uint1
 }
 
 /* node_bytes::counter::put_counter */
-static void kd_node_bytes_counter_put_counter(struct kd_slice v1, uint16_t v2)
+KD_STATIC void kd_node_bytes_counter_put_counter(struct kd_slice v1, uint16_t v2)
 {
     uint8_t *v4 = v1.at;
     struct kd_slice v5;
@@ -1908,7 +1916,7 @@ static void kd_node_bytes_counter_put_counter(struct kd_slice v1, uint16_t v2)
 }
 
 /* node_bytes::slots::held_at */
-static bool kd_node_bytes_slots_held_at(struct kd_slice v1, uint64_t v2)
+KD_STATIC bool kd_node_bytes_slots_held_at(struct kd_slice v1, uint64_t v2)
 {
     bool v0;
 
@@ -1919,7 +1927,7 @@ static bool kd_node_bytes_slots_held_at(struct kd_slice v1, uint64_t v2)
 }
 
 /* node_bytes::slots::stamp_at */
-static uint16_t kd_node_bytes_slots_stamp_at(struct kd_slice v1, uint64_t v2)
+KD_STATIC uint16_t kd_node_bytes_slots_stamp_at(struct kd_slice v1, uint64_t v2)
 {
     uint16_t v0;
 
@@ -1930,7 +1938,7 @@ static uint16_t kd_node_bytes_slots_stamp_at(struct kd_slice v1, uint64_t v2)
 }
 
 /* std::num::wrapping_sub_u16 */
-static uint16_t kd_std_num_wrapping_sub_u16(uint16_t v1, uint16_t v2)
+KD_STATIC uint16_t kd_std_num_wrapping_sub_u16(uint16_t v1, uint16_t v2)
 {
     uint16_t v0;
     uint16_t v4;
@@ -1948,7 +1956,7 @@ static uint16_t kd_std_num_wrapping_sub_u16(uint16_t v1, uint16_t v2)
 }
 
 /* node::tick::age */
-static uint16_t kd_node_tick_age(uint16_t v1, uint16_t v2)
+KD_STATIC uint16_t kd_node_tick_age(uint16_t v1, uint16_t v2)
 {
     uint16_t v0;
 
@@ -1957,7 +1965,7 @@ static uint16_t kd_node_tick_age(uint16_t v1, uint16_t v2)
 }
 
 /* node_bytes::slots::may_stir_at */
-static bool kd_node_bytes_slots_may_stir_at(struct kd_slice v1, uint64_t v2, uint16_t v3)
+KD_STATIC bool kd_node_bytes_slots_may_stir_at(struct kd_slice v1, uint64_t v2, uint16_t v3)
 {
     bool v0;
 
@@ -1992,7 +2000,7 @@ static bool kd_node_bytes_slots_may_stir_at(struct kd_slice v1, uint64_t v2, uin
 }
 
 /* node::slots::Slot::due */
-static bool kd_node_slots_Slot_due(struct kosmydore_slot v1, uint16_t v2)
+KD_STATIC bool kd_node_slots_Slot_due(struct kosmydore_slot v1, uint16_t v2)
 {
     bool v0;
 
@@ -2015,7 +2023,7 @@ static bool kd_node_slots_Slot_due(struct kosmydore_slot v1, uint16_t v2)
 }
 
 /* node::slots::Slot::delivered */
-static struct kosmydore_slot kd_node_slots_Slot_delivered(struct kosmydore_slot v1)
+KD_STATIC struct kosmydore_slot kd_node_slots_Slot_delivered(struct kosmydore_slot v1)
 {
     struct kosmydore_slot v0;
 
@@ -2035,7 +2043,7 @@ static struct kosmydore_slot kd_node_slots_Slot_delivered(struct kosmydore_slot 
 }
 
 /* node_bytes::slots::put_message */
-static void kd_node_bytes_slots_put_message(struct kd_slice v1, uint64_t v2, struct kosmydore_message v3)
+KD_STATIC void kd_node_bytes_slots_put_message(struct kd_slice v1, uint64_t v2, struct kosmydore_message v3)
 {
     uint64_t v4 = UINT64_C(32) * v2;
     uint8_t v6 = kd_node_bytes_numbers_flag(v3.held);
@@ -2067,7 +2075,7 @@ static void kd_node_bytes_slots_put_message(struct kd_slice v1, uint64_t v2, str
 }
 
 /* node::slots::Message::payload_length */
-static uint64_t kd_node_slots_Message_payload_length(struct kosmydore_message v1)
+KD_STATIC uint64_t kd_node_slots_Message_payload_length(struct kosmydore_message v1)
 {
     uint64_t v0;
 
@@ -2077,7 +2085,7 @@ static uint64_t kd_node_slots_Message_payload_length(struct kosmydore_message v1
 }
 
 /* node::slots::Slot::late */
-static bool kd_node_slots_Slot_late(struct kosmydore_slot v1, uint16_t v2)
+KD_STATIC bool kd_node_slots_Slot_late(struct kosmydore_slot v1, uint16_t v2)
 {
     bool v0;
 
@@ -2099,7 +2107,7 @@ static bool kd_node_slots_Slot_late(struct kosmydore_slot v1, uint16_t v2)
 }
 
 /* node::slots::Slot::dropped */
-static struct kosmydore_slot kd_node_slots_Slot_dropped(struct kosmydore_slot v1)
+KD_STATIC struct kosmydore_slot kd_node_slots_Slot_dropped(struct kosmydore_slot v1)
 {
     struct kosmydore_slot v0;
 
@@ -2122,7 +2130,7 @@ static struct kosmydore_slot kd_node_slots_Slot_dropped(struct kosmydore_slot v1
 }
 
 /* node_bytes::slots::put_pending */
-static void kd_node_bytes_slots_put_pending(struct kd_slice v1, uint64_t v2, struct kosmydore_pending v3)
+KD_STATIC void kd_node_bytes_slots_put_pending(struct kd_slice v1, uint64_t v2, struct kosmydore_pending v3)
 {
     uint64_t v4 = UINT64_C(32) * v2;
     uint8_t v5 = kd_node_bytes_numbers_flag(v3.payload);
@@ -2141,7 +2149,7 @@ static void kd_node_bytes_slots_put_pending(struct kd_slice v1, uint64_t v2, str
 }
 
 /* node::tick::wide16 */
-static uint32_t kd_node_tick_wide16(uint16_t v1)
+KD_STATIC uint32_t kd_node_tick_wide16(uint16_t v1)
 {
     uint32_t v0;
 
@@ -2150,7 +2158,7 @@ static uint32_t kd_node_tick_wide16(uint16_t v1)
 }
 
 /* node::slots::Slot::hold_over */
-static bool kd_node_slots_Slot_hold_over(struct kosmydore_slot v1, uint16_t v2)
+KD_STATIC bool kd_node_slots_Slot_hold_over(struct kosmydore_slot v1, uint16_t v2)
 {
     bool v0;
 
@@ -2172,7 +2180,7 @@ static bool kd_node_slots_Slot_hold_over(struct kosmydore_slot v1, uint16_t v2)
 }
 
 /* node::slots::Slot::hold_ended */
-static struct kosmydore_slot kd_node_slots_Slot_hold_ended(struct kosmydore_slot v1)
+KD_STATIC struct kosmydore_slot kd_node_slots_Slot_hold_ended(struct kosmydore_slot v1)
 {
     struct kosmydore_slot v0;
 
@@ -2186,7 +2194,7 @@ static struct kosmydore_slot kd_node_slots_Slot_hold_ended(struct kosmydore_slot
 }
 
 /* node_bytes::tick::tick */
-static struct kd_node_bytes_Written kd_node_bytes_tick_tick(struct kd_slice v1, struct kd_slice v2)
+KD_STATIC struct kd_node_bytes_Written kd_node_bytes_tick_tick(struct kd_slice v1, struct kd_slice v2)
 {
     struct kd_node_bytes_Written v0;
     struct kd_u8_8 v11;
@@ -2330,7 +2338,7 @@ struct kosmydore_written kosmydore_module_tick(uint8_t *node, size_t node_length
 }
 
 /* node::slots::Slot::is_sender */
-static bool kd_node_slots_Slot_is_sender(struct kosmydore_slot v1)
+KD_STATIC bool kd_node_slots_Slot_is_sender(struct kosmydore_slot v1)
 {
     bool v0;
 
@@ -2340,7 +2348,7 @@ static bool kd_node_slots_Slot_is_sender(struct kosmydore_slot v1)
 }
 
 /* node::slots::Pending::any */
-static bool kd_node_slots_Pending_any(struct kosmydore_pending v1)
+KD_STATIC bool kd_node_slots_Pending_any(struct kosmydore_pending v1)
 {
     bool v0;
 
@@ -2350,7 +2358,7 @@ static bool kd_node_slots_Pending_any(struct kosmydore_pending v1)
 }
 
 /* node::slots::Slot::is_busy */
-static bool kd_node_slots_Slot_is_busy(struct kosmydore_slot v1)
+KD_STATIC bool kd_node_slots_Slot_is_busy(struct kosmydore_slot v1)
 {
     bool v0;
 
@@ -2361,7 +2369,7 @@ static bool kd_node_slots_Slot_is_busy(struct kosmydore_slot v1)
 }
 
 /* node::slots::Slot::request_reply */
-static uint8_t kd_node_slots_Slot_request_reply(struct kosmydore_slot v1)
+KD_STATIC uint8_t kd_node_slots_Slot_request_reply(struct kosmydore_slot v1)
 {
     uint8_t v0;
 
@@ -2381,7 +2389,7 @@ static uint8_t kd_node_slots_Slot_request_reply(struct kosmydore_slot v1)
 }
 
 /* node::slots::Message::keeping */
-static struct kosmydore_message kd_node_slots_Message_keeping(struct kd_slice v1)
+KD_STATIC struct kosmydore_message kd_node_slots_Message_keeping(struct kd_slice v1)
 {
     struct kosmydore_message v0;
 
@@ -2398,7 +2406,7 @@ static struct kosmydore_message kd_node_slots_Message_keeping(struct kd_slice v1
 }
 
 /* node::request::message_for */
-static struct kosmydore_message kd_node_request_message_for(bool v1, uint16_t v2, struct kd_slice v3)
+KD_STATIC struct kosmydore_message kd_node_request_message_for(bool v1, uint16_t v2, struct kd_slice v3)
 {
     struct kosmydore_message v0;
 
@@ -2412,7 +2420,7 @@ static struct kosmydore_message kd_node_request_message_for(bool v1, uint16_t v2
 }
 
 /* node::slots::Pending::to_send */
-static struct kosmydore_pending kd_node_slots_Pending_to_send(bool v1)
+KD_STATIC struct kosmydore_pending kd_node_slots_Pending_to_send(bool v1)
 {
     struct kosmydore_pending v0;
 
@@ -2423,7 +2431,8 @@ static struct kosmydore_pending kd_node_slots_Pending_to_send(bool v1)
 }
 
 /* node::slots::Slot::requested */
-static struct kosmydore_slot kd_node_slots_Slot_requested(struct kosmydore_slot v1, uint16_t v2, struct kd_slice v3)
+KD_STATIC struct kosmydore_slot kd_node_slots_Slot_requested(struct kosmydore_slot v1, uint16_t v2,
+    struct kd_slice v3)
 {
     struct kosmydore_slot v0;
 
@@ -2438,7 +2447,7 @@ static struct kosmydore_slot kd_node_slots_Slot_requested(struct kosmydore_slot 
 }
 
 /* node_bytes::request::request */
-static uint8_t kd_node_bytes_request_request(struct kd_slice v1, uint32_t v2, struct kd_slice v3)
+KD_STATIC uint8_t kd_node_bytes_request_request(struct kd_slice v1, uint32_t v2, struct kd_slice v3)
 {
     uint8_t v0;
 
@@ -2517,7 +2526,7 @@ uint32_t kosmydore_module_request(uint8_t *node, size_t node_length, uint32_t st
 }
 
 /* node_bytes::slots::pending_at */
-static bool kd_node_bytes_slots_pending_at(struct kd_slice v1, uint64_t v2)
+KD_STATIC bool kd_node_bytes_slots_pending_at(struct kd_slice v1, uint64_t v2)
 {
     bool v0;
 
@@ -2528,7 +2537,7 @@ static bool kd_node_bytes_slots_pending_at(struct kd_slice v1, uint64_t v2)
 }
 
 /* node::slots::Slot::has_frame */
-static bool kd_node_slots_Slot_has_frame(struct kosmydore_slot v1)
+KD_STATIC bool kd_node_slots_Slot_has_frame(struct kosmydore_slot v1)
 {
     bool v0;
 
@@ -2545,7 +2554,7 @@ static bool kd_node_slots_Slot_has_frame(struct kosmydore_slot v1)
 }
 
 /* node_bytes::slots::frame_at */
-static bool kd_node_bytes_slots_frame_at(struct kd_slice v1, uint64_t v2)
+KD_STATIC bool kd_node_bytes_slots_frame_at(struct kd_slice v1, uint64_t v2)
 {
     bool v0;
 
@@ -2561,7 +2570,7 @@ static bool kd_node_bytes_slots_frame_at(struct kd_slice v1, uint64_t v2)
 }
 
 /* node_bytes::finding::find_frame */
-static uint64_t kd_node_bytes_finding_find_frame(struct kd_slice v1)
+KD_STATIC uint64_t kd_node_bytes_finding_find_frame(struct kd_slice v1)
 {
     uint64_t v0;
 
@@ -2583,7 +2592,7 @@ static uint64_t kd_node_bytes_finding_find_frame(struct kd_slice v1)
 }
 
 /* node::slots::Slot::lowest_code */
-static uint32_t kd_node_slots_Slot_lowest_code(struct kosmydore_slot v1)
+KD_STATIC uint32_t kd_node_slots_Slot_lowest_code(struct kosmydore_slot v1)
 {
     uint32_t v0;
 
@@ -2610,7 +2619,7 @@ static uint32_t kd_node_slots_Slot_lowest_code(struct kosmydore_slot v1)
 }
 
 /* node::next_frame::put_payload */
-static uint64_t kd_node_next_frame_put_payload(struct kd_slice v1, struct kosmydore_message v2)
+KD_STATIC uint64_t kd_node_next_frame_put_payload(struct kd_slice v1, struct kosmydore_message v2)
 {
     uint64_t v0;
     struct kd_u8_8 v4;
@@ -2641,7 +2650,7 @@ static uint64_t kd_node_next_frame_put_payload(struct kd_slice v1, struct kosmyd
 }
 
 /* node::next_frame::give_payload */
-static uint64_t kd_node_next_frame_give_payload(struct kd_slice v1, struct kosmydore_slot v2, uint32_t v3)
+KD_STATIC uint64_t kd_node_next_frame_give_payload(struct kd_slice v1, struct kosmydore_slot v2, uint32_t v3)
 {
     uint64_t v0;
 
@@ -2661,7 +2670,7 @@ static uint64_t kd_node_next_frame_give_payload(struct kd_slice v1, struct kosmy
 }
 
 /* node::slots::Slot::given_out */
-static struct kosmydore_slot kd_node_slots_Slot_given_out(struct kosmydore_slot v1, uint32_t v2)
+KD_STATIC struct kosmydore_slot kd_node_slots_Slot_given_out(struct kosmydore_slot v1, uint32_t v2)
 {
     struct kosmydore_slot v0;
 
@@ -2683,7 +2692,7 @@ static struct kosmydore_slot kd_node_slots_Slot_given_out(struct kosmydore_slot 
 }
 
 /* node_bytes::next_frame::next_frame */
-static struct kd_node_bytes_next_frame_GivenOut kd_node_bytes_next_frame_next_frame(struct kd_slice v1,
+KD_STATIC struct kd_node_bytes_next_frame_GivenOut kd_node_bytes_next_frame_next_frame(struct kd_slice v1,
     struct kd_slice v2)
 {
     struct kd_node_bytes_next_frame_GivenOut v0;
@@ -2796,7 +2805,7 @@ bool kosmydore_count(uint32_t *tally, size_t tally_length, uint32_t reply)
 }
 
 /* node::Node::fresh */
-static struct kosmydore_node kd_node_Node_fresh(void)
+KD_STATIC struct kosmydore_node kd_node_Node_fresh(void)
 {
     struct kosmydore_node v0;
 
@@ -2847,7 +2856,7 @@ struct kosmydore_node kosmydore_fresh(void)
 }
 
 /* node::slots::Slot::is_free */
-static bool kd_node_slots_Slot_is_free(struct kosmydore_slot v1)
+KD_STATIC bool kd_node_slots_Slot_is_free(struct kosmydore_slot v1)
 {
     bool v0;
 
@@ -2856,7 +2865,7 @@ static bool kd_node_slots_Slot_is_free(struct kosmydore_slot v1)
 }
 
 /* node::slots::Slot::is_of */
-static bool kd_node_slots_Slot_is_of(struct kosmydore_slot v1, uint32_t v2)
+KD_STATIC bool kd_node_slots_Slot_is_of(struct kosmydore_slot v1, uint32_t v2)
 {
     bool v0;
 
@@ -2866,7 +2875,7 @@ static bool kd_node_slots_Slot_is_of(struct kosmydore_slot v1, uint32_t v2)
 }
 
 /* node::Node::set_up */
-static struct kd_node_Answered kd_node_Node_set_up(struct kosmydore_node v1, uint32_t v2,
+KD_STATIC struct kd_node_Answered kd_node_Node_set_up(struct kosmydore_node v1, uint32_t v2,
     struct kosmydore_slot_settings v3)
 {
     struct kd_node_Answered v0;
@@ -2996,7 +3005,7 @@ struct kosmydore_answered kosmydore_set_up(struct kosmydore_node node, uint32_t 
 }
 
 /* node::Node::hear */
-static struct kd_node_Delivered kd_node_Node_hear(struct kosmydore_node v1, uint32_t v2, uint8_t v3,
+KD_STATIC struct kd_node_Delivered kd_node_Node_hear(struct kosmydore_node v1, uint32_t v2, uint8_t v3,
     struct kd_slice v4, struct kd_slice v5)
 {
     struct kd_node_Delivered v0;
@@ -3110,7 +3119,7 @@ struct kosmydore_delivered kosmydore_hear(struct kosmydore_node node, uint32_t i
 }
 
 /* node::slots::Slot::may_stir */
-static bool kd_node_slots_Slot_may_stir(struct kosmydore_slot v1, uint16_t v2)
+KD_STATIC bool kd_node_slots_Slot_may_stir(struct kosmydore_slot v1, uint16_t v2)
 {
     bool v0;
 
@@ -3135,7 +3144,7 @@ static bool kd_node_slots_Slot_may_stir(struct kosmydore_slot v1, uint16_t v2)
 }
 
 /* node::slots::Message::all_bytes */
-static struct kd_u8_8 kd_node_slots_Message_all_bytes(struct kosmydore_message v1)
+KD_STATIC struct kd_u8_8 kd_node_slots_Message_all_bytes(struct kosmydore_message v1)
 {
     struct kd_u8_8 v0;
 
@@ -3144,7 +3153,7 @@ static struct kd_u8_8 kd_node_slots_Message_all_bytes(struct kosmydore_message v
 }
 
 /* node::Node::tick */
-static struct kd_node_Delivered kd_node_Node_tick(struct kosmydore_node v1, struct kd_slice v2)
+KD_STATIC struct kd_node_Delivered kd_node_Node_tick(struct kosmydore_node v1, struct kd_slice v2)
 {
     struct kd_node_Delivered v0;
     struct kosmydore_node v3;
@@ -3267,7 +3276,7 @@ struct kosmydore_delivered kosmydore_tick(struct kosmydore_node node, uint8_t *o
 }
 
 /* node::Node::request */
-static struct kd_node_Answered kd_node_Node_request(struct kosmydore_node v1, uint32_t v2, struct kd_slice v3)
+KD_STATIC struct kd_node_Answered kd_node_Node_request(struct kosmydore_node v1, uint32_t v2, struct kd_slice v3)
 {
     struct kd_node_Answered v0;
     struct kosmydore_node v4;
@@ -3352,7 +3361,7 @@ struct kosmydore_answered kosmydore_request(struct kosmydore_node node, uint32_t
 }
 
 /* node::Node::next_frame */
-static struct kd_node_Given kd_node_Node_next_frame(struct kosmydore_node v1, struct kd_slice v2)
+KD_STATIC struct kd_node_Given kd_node_Node_next_frame(struct kosmydore_node v1, struct kd_slice v2)
 {
     struct kd_node_Given v0;
     struct kosmydore_node v3;

@@ -191,7 +191,7 @@ impl<'a, 'b> CFunction<'a, 'b> {
         }
         let (kind, name) = match self.names {
             Some(_) => ("", last(&self.function.name).to_string()),
-            None => ("static ", CTypes::c_name(&self.function.name)),
+            None => ("KD_STATIC ", CTypes::c_name(&self.function.name)),
         };
         let mut line = format!("{kind}{}", self.types.declare(&answer, &format!("{name}("), at)?);
         let mut signature = String::new();

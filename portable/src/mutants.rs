@@ -42,7 +42,7 @@ fn greater(text: &str, from: usize, before: &str, after: &str) -> Vec<Change> {
 
 /// The changes of a C file, after its declarations.
 pub fn of_c(text: &str) -> Vec<Change> {
-    let from = text.find("\nstatic ").unwrap_or(0);
+    let from = text.find("\nKD_STATIC ").unwrap_or(0);
     let mut found = swaps(
         text,
         from,
