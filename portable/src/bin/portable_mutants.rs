@@ -31,6 +31,8 @@ struct Trial {
     calls: u64,
     /// Whether the compiler can fill locals that are not written.
     fills: bool,
+    /// Whether all changes are tried.
+    all: bool,
 }
 
 impl Trial {
@@ -71,12 +73,13 @@ impl Trial {
         by("clang").or_else(|| by("gcc"))
     }
 
-    /// Whether the comparison differs, or the sanitizers stop it. Of one that is listed only the first calls are made.
+    /// Whether the comparison differs, or the sanitizers stop it. Of one that is listed only the first calls are made, but in
+    /// a run of all.
     fn found(&self, mutant: &mut Mutant, listed: bool) -> Option<bool> {
         if self.differs(&mutant.program, mutant.number, self.calls)? {
             return Some(true);
         }
-        if listed {
+        if listed && !self.all {
             return Some(false);
         }
         if mutant.sanitized.is_none() {
@@ -349,7 +352,7 @@ fn run(words: &[String]) -> Result<bool, String> {
     let count = |word: &String| if word == "all" { Ok(usize::MAX) } else { number(word).map(|count| count as usize) };
     let (of_mir_count, of_c_count) = (count(of_mir_count)?, count(of_c_count)?);
     let (seed, calls) = (number(seed)?, number(calls)?);
-    let mut trial = Trial { work: work.into(), header, names, link, seed, calls, fills: true };
+    let mut trial = Trial { work: work.into(), header, names, link, seed, calls, fills: true, all: false };
     let text = read(program)?;
     let mut unseen = Unseen::read(&read(unseen)?);
     let all_refused = all_refused(&trial, &text);
@@ -369,6 +372,7 @@ fn run(words: &[String]) -> Result<bool, String> {
         of_program.iter().map(|change| in_mir(&text, change)).chain(of_file.iter().map(|change| in_c(&c, change)));
     let there: BTreeSet<String> = there.collect();
     let all = of_mir_count >= of_program.len() && of_c_count >= of_file.len();
+    trial.all = all;
     let (program_count, file_count) = (of_program.len(), of_file.len());
 
     let in_program = chosen(of_program, of_mir_count, seed).into_iter().map(|change| {
