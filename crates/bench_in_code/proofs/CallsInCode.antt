@@ -10,21 +10,24 @@ use borrow.Author.Tests.{le-leb, lt-leb}
 use Rattle.wire.specs.Frames.{maxPayload}
 use Rattle.wire.specs.Delivered.{over}
 use Rattle.node.specs.declared.Answered.{Answered}
-use Rattle.node.specs.declared.Delivered.{Delivered}
 use Rattle.node.specs.declared.Given.{Given}
-use Rattle.node.specs.Nodes.{asAnswered, asDelivered, asGiven}
+use Rattle.node.specs.Nodes.{asAnswered, asGiven}
 use Rattle.node.specs.Clock.{rolled}
 use Rattle.node.specs.Calls.{Call, outcome, tick, hear}
-use Rattle.bench_in_code.specs.declared.stations.Station.{Station}
 use Rattle.bench_in_code.specs.declared.outbox.Frame.{Frame}
 use Rattle.bench_in_code.specs.declared.outbox.Frames.{Frames}
-use Rattle.bench_in_code.specs.declared.Bench.{Bench}
+use Rattle.node_bytes.specs.declared.Written.{Written}
+use Rattle.node_bytes.specs.Layout.{nodeSize}
+use Rattle.node_bytes.specs.LentCalls.{lentOutcome, asWritten, Leaves}
+use Rattle.node_bytes.proofs.Calling.{as-node}
+use Rattle.bench_in_code.specs.Values.{Station, Turn, Bench}
 use Rattle.bench_in_code.specs.declared.Giving.the-variants.{Dead, Nothing, Full, Out}
 use Rattle.bench.specs.SetUp.{isDone}
 use Rattle.bench.specs.Bench as history
 use Rattle.bench.specs.Events.{lent, withNode}
-use Rattle.bench_in_code.specs.InCode.{nobody, shown, kept, silence, answeredTurn, tickTurn, hearTurn, payloadOf, moduleIn, isLiveIn, callIn, onModule}
+use Rattle.bench_in_code.specs.InCode.{nobody, shown, kept, silence, tickTurn, hearTurn, payloadOf, moduleIn, isLiveIn, callIn, onModule}
 use Rattle.bench_in_code.specs.InCode.{notAsked, asked, next, givingOf, withFrame, notGiven, capacity}
+use Rattle.bench_in_code.specs.InBytes.{stationIn, spokenOf}
 use Rattle.bench.proofs.laws.ListPlaces.{nth-inside, nth-past, at-inside, at-past}
 
 -- ── one module of the bench ──
@@ -68,22 +71,35 @@ unfolding asked
 nobody-answers there t c who b = rw t
 
 -- ── a module's turn ──
-pub dead-at-tick : (m : Station) → m .live ≡ false → record { after = m; said = silence } ≡ tickTurn m
+-- what a module does and says, told apart
+pub told-apart : (t u : Turn) → t ≡ u → (spokenOf (t .said) ≡ spokenOf (u .said)) × (t .said .bytes ≡ u .said .bytes) × (t .after ≡ u .after)
+told-apart t u e = (ap (λ (x : Turn). spokenOf (x .said)) e, ap (λ (x : Turn). x .said .bytes) e, ap (λ (x : Turn). x .after) e)
+
+-- a module that an event does not reach
+abbrev pub untouched : Station → Turn
+untouched m = record { after = m; said = silence }
+
+-- a module whose node answered on its lent bytes
+abbrev pub answering : (live : Bool) (after : List ℕ) → Written → (out : List ℕ) → Turn
+answering live after w out =
+    record { after = stationIn live after; said = record { heard = true; reply = w .reply; len = w .written; bytes = out } }
+
+pub dead-at-tick : (m : Station) → m .live ≡ false → untouched m ≡ tickTurn m
 dead-at-tick m e = rw e
 
-pub live-at-tick : (m : Station) → m .live ≡ true → (a : Delivered) (out : List ℕ)
-    → a ≡ asDelivered (outcome rolled (tick lent) (m .node)) → out ≡ over (outcome rolled (tick lent) (m .node) .bytes) lent
-    → answeredTurn a out m ≡ tickTurn m
-live-at-tick m e a out a-is out-is = rw (a-is, out-is, e)
+module _ (live : Bool) (before after : List ℕ) (whole : length before ≡ nodeSize) (w : Written) (out : List ℕ) where
+  pub live-at-tick : live ≡ true → w ≡ asWritten (lentOutcome (tick lent) before) → out ≡ over (lentOutcome (tick lent) before .bytes) lent
+      → Leaves (tick lent) before after → answering live after w out ≡ tickTurn (stationIn live before)
+  live-at-tick e w-is out-is leaves = rw (w-is, out-is, leaves .node, as-node (tick lent) before whole, e)
 
-module _ (named own : Bool) (f : Frame) (m : Station) where
-  pub not-reached : (m .live && named && not own) ≡ false → record { after = m; said = silence } ≡ hearTurn named own f m
-  not-reached e = rw e
+  pub reached : (named own : Bool) (f : Frame) → (live && named && not own) ≡ true → (n : ℕ) (p : List ℕ) → n ≡ length p → p ≡ payloadOf f
+      → w ≡ asWritten (lentOutcome (hear (f .id) n p lent) before) → out ≡ over (lentOutcome (hear (f .id) n p lent) before .bytes) lent
+      → Leaves (hear (f .id) n p lent) before after → answering live after w out ≡ hearTurn named own f (stationIn live before)
+  reached named own f e n p n-is p-is w-is out-is leaves =
+      rw (w-is, out-is, leaves .node, as-node (hear (f .id) n p lent) before whole, n-is, p-is, e)
 
-  pub reached : (m .live && named && not own) ≡ true → (a : Delivered) (out : List ℕ) (n : ℕ) (p : List ℕ) → n ≡ length p → p ≡ payloadOf f
-      → a ≡ asDelivered (outcome rolled (hear (f .id) n p lent) (m .node)) → out ≡ over (outcome rolled (hear (f .id) n p lent) (m .node) .bytes) lent
-      → answeredTurn a out m ≡ hearTurn named own f m
-  reached e a out n p n-is p-is a-is out-is = rw (a-is, out-is, n-is, p-is, e)
+pub not-reached : (named own : Bool) (f : Frame) (m : Station) → (m .live && named && not own) ≡ false → untouched m ≡ hearTurn named own f m
+not-reached named own f m e = rw e
 
 -- ── the payload of a frame ──
 pub as-many-bytes : (f : Frame) (n : ℕ) → n ≡ length (payloadOf f) → take n (f .bytes) ≡ payloadOf f
