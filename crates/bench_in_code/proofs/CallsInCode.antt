@@ -1,33 +1,40 @@
 -- The ways through the calls of the bench in code: what each return leaves is what the definition says.
-use mathlib.Core.Path.{_≡_, sym, ap, _∙_}
+use mathlib.Core.Path.{_≡_, refl, sym, ap, _∙_}
 use mathlib.Core.Bool.{Bool, true, false, not, _&&_}
-use mathlib.Core.List.{List}
+use mathlib.Core.List.{List, [], map}
 use Prim.Native.Nat.{ℕ, _≤_, _<_}
 use native.Mathlib.Omega.{arith}
 use lib.ListN.{length, getD, set, replicate, take, drop, take-append-drop}
 use lib.Seq.{take-append-seam}
+use lib.Dec.{ltb}
 use borrow.Author.Tests.{le-leb, lt-leb}
+use Rattle.wire.specs.declared.reply.Reply.{Reply}
+use Rattle.wire.specs.declared.reply.Reply.the-variants.{Done}
 use Rattle.wire.specs.Frames.{maxPayload}
 use Rattle.wire.specs.Delivered.{over}
 use Rattle.node.specs.declared.Answered.{Answered}
 use Rattle.node.specs.declared.Given.{Given}
-use Rattle.node.specs.Nodes.{asAnswered, asGiven}
+use Rattle.node.specs.Nodes.{fresh, asAnswered, asGiven}
 use Rattle.node.specs.Clock.{rolled}
 use Rattle.node.specs.Calls.{Call, outcome, tick, hear}
 use Rattle.bench_in_code.specs.declared.outbox.Frame.{Frame}
 use Rattle.bench_in_code.specs.declared.outbox.Frames.{Frames}
 use Rattle.node_bytes.specs.declared.Written.{Written}
+use Rattle.node_bytes.specs.declared.next_frame.GivenOut.{GivenOut}
+use Rattle.node_bytes.specs.Decoding.{decode}
 use Rattle.node_bytes.specs.Layout.{nodeSize}
-use Rattle.node_bytes.specs.LentCalls.{lentOutcome, asWritten, Leaves}
+use Rattle.node_bytes.specs.LentCalls.{lentOutcome, asWritten, asGivenOut, Leaves}
 use Rattle.node_bytes.proofs.Calling.{as-node}
-use Rattle.bench_in_code.specs.Values.{Station, Turn, Bench}
+use Rattle.node_bytes.proofs.Lent.{cleared-is-fresh, fresh-written}
+use Rattle.bench_in_code.specs.Values.{Station, Turn, Bench, Asked, Gave}
 use Rattle.bench_in_code.specs.declared.Giving.the-variants.{Dead, Nothing, Full, Out}
 use Rattle.bench.specs.SetUp.{isDone}
 use Rattle.bench.specs.Bench as history
-use Rattle.bench.specs.Events.{lent, withNode}
+use Rattle.bench.specs.Events.{lent, withNode, dead}
 use Rattle.bench_in_code.specs.InCode.{nobody, shown, kept, silence, tickTurn, hearTurn, payloadOf, moduleIn, isLiveIn, callIn, onModule}
-use Rattle.bench_in_code.specs.InCode.{notAsked, asked, next, givingOf, withFrame, notGiven, capacity}
-use Rattle.bench_in_code.specs.InBytes.{stationIn, spokenOf}
+use Rattle.bench_in_code.specs.InCode.{notAsked, asked, next, givingOf, withFrame, notGiven, capacity, places, benchOf}
+use Rattle.bench_in_code.specs.InBytes.{stationIn, stationsIn, benchIn, spokenOf, answeredOf, givenOf, Dies}
+use Rattle.bench_in_code.proofs.StationsInBytes.{as-many, station-read, node-stored, liveness-stored}
 use Rattle.bench.proofs.laws.ListPlaces.{nth-inside, nth-past, at-inside, at-past}
 
 -- ── one module of the bench ──
@@ -70,10 +77,87 @@ pub nobody-answers : (there : Bool) → there ≡ false → (c : Call) (who : �
 unfolding asked
 nobody-answers there t c who b = rw t
 
+-- ── a bench in bytes ──
+module _ (live : List Bool) (nodes : List (List ℕ)) (many : length nodes ≡ 8) where
+  pub eight-places : length (stationsIn live nodes) ≡ 8
+  eight-places = as-many live nodes ∙ many
+
+  -- nobody answers, and the bytes stay
+  pub nobody-in : (there : Bool) → there ≡ false → (c : Call) (who : ℕ)
+      → (record { there = false; reply = Done } ≡ answeredOf (asked there c who (benchIn live nodes)))
+      × (benchIn live nodes ≡ asked there c who (benchIn live nodes) .bench)
+  nobody-in there t c who =
+      let e = nobody-answers there t c who (benchIn live nodes) in
+      (ap answeredOf e, ap (λ (a : Asked). a .bench) e)
+
+  -- the node at a place, before and after a call on its bytes
+  module _ (who : ℕ) (inside : who < 8) (d after : List ℕ) (whole : length (getD nodes who d) ≡ nodeSize) where
+    abbrev before : List ℕ
+    before = getD nodes who d
+
+    abbrev m : Station
+    m = stationIn (getD live who false) after
+
+    read : getD (stationsIn live nodes) who nobody ≡ stationIn (getD live who false) before
+    read = station-read live nodes who nobody d (omega (arith, many))
+
+    pub stored-node : m ≡ kept (withNode (decode after) (shown (getD (stationsIn live nodes) who nobody)))
+    stored-node = rw read
+
+    pub answers-in : (there : Bool) → there ≡ true → (c : Call) (r : Reply) → r ≡ lentOutcome c before .reply → Leaves c before after
+        → (record { there = true; reply = r } ≡ answeredOf (asked there c who (benchIn live nodes)))
+        × (benchIn live (set nodes who after) ≡ asked there c who (benchIn live nodes) .bench)
+    answers-in there t c r r-is leaves =
+        let a-is : record { node = decode after; reply = r } ≡ asAnswered (outcome rolled c (decode before)) =
+        rw (r-is, leaves .node, as-node c before whole) in
+        let e = answers-there (benchIn live nodes) eight-places who inside nobody there t c (record { node = decode after; reply = r }) (rw read a-is) m stored-node in
+        (ap answeredOf e, rw (node-stored live nodes who after) (ap (λ (x : Asked). x .bench) e))
+
+    pub given-in : (g : GivenOut) → g ≡ asGivenOut (lentOutcome next before) → Leaves next before after
+        → record { node = decode after; reply = g .reply; id = g .id; len = g .len }
+        ≡ asGiven (outcome rolled next (getD (stationsIn live nodes) who nobody .node))
+    given-in g g-is leaves = rw (read, g-is, leaves .node, as-node next before whole)
+
+    pub written-in : (out : List ℕ) → out ≡ over (lentOutcome next before .bytes) (replicate maxPayload 0)
+        → out ≡ over (outcome rolled next (getD (stationsIn live nodes) who nobody .node) .bytes) (replicate maxPayload 0)
+    written-in out is = is ∙ rw (read, as-node next before whole)
+
+    pub stored-in : (x : Bench) → record { modules = set (stationsIn live nodes) who m } ≡ x → benchIn live (set nodes who after) ≡ x
+    stored-in x e = rw (node-stored live nodes who after) e
+
+-- ── a death ──
+pub dies-inside : (live : List Bool) (who : ℕ) → who < 8 → length live ≡ 8 → Dies who live (set live who false)
+dies-inside live who inside long nodes many =
+    let read = station-read live nodes who nobody [] (omega (arith, many, inside)) in
+    let died : stationIn false (getD nodes who []) ≡ kept (dead (shown (getD (stationsIn live nodes) who nobody))) = rw read in
+    rw (liveness-stored live nodes who false [] (omega (arith, long, inside)))
+    (stored (benchIn live nodes) (eight-places live nodes many) who inside nobody dead _ died)
+
+pub dies-past : (live : List Bool) (who : ℕ) → 8 ≤ who → Dies who live live
+dies-past live who past nodes many = past-stays (benchIn live nodes) (eight-places live nodes many) who past dead
+
+-- ── fresh nodes ──
+abbrev zeros : List ℕ
+zeros = replicate nodeSize 0
+
+zeros-are-fresh : decode zeros ≡ fresh
+zeros-are-fresh = ap decode (cleared-is-fresh zeros refl) ∙ fresh-written zeros refl
+
+eight-of : (n : ℕ) (x : List ℕ) → decode x ≡ fresh → benchIn (map (λ (i : ℕ). ltb i n) places) (replicate 8 x) ≡ benchOf n
+unfolding stationsIn
+eight-of n x e = rw e
+
+pub all-fresh : (n : ℕ) → benchIn (map (λ (i : ℕ). ltb i n) places) (replicate 8 zeros) ≡ benchOf n
+all-fresh n = eight-of n zeros zeros-are-fresh
+
+-- ── giving out, told apart ──
+pub told-of-giving : (g h : Gave) → g ≡ h → (givenOf g ≡ givenOf h) × (g .bench ≡ h .bench)
+told-of-giving g h e = (ap givenOf e, ap (λ (x : Gave). x .bench) e)
+
 -- ── a module's turn ──
 -- what a module does and says, told apart
-pub told-apart : (t u : Turn) → t ≡ u → (spokenOf (t .said) ≡ spokenOf (u .said)) × (t .said .bytes ≡ u .said .bytes) × (t .after ≡ u .after)
-told-apart t u e = (ap (λ (x : Turn). spokenOf (x .said)) e, ap (λ (x : Turn). x .said .bytes) e, ap (λ (x : Turn). x .after) e)
+pub told-apart : (t u : Turn) → t ≡ u → (spokenOf (t .said) ≡ spokenOf (u .said)) × ((t .said .bytes ≡ u .said .bytes) × (t .after ≡ u .after))
+told-apart t u e = (ap (λ (x : Turn). spokenOf (x .said)) e, (ap (λ (x : Turn). x .said .bytes) e, ap (λ (x : Turn). x .after) e))
 
 -- a module that an event does not reach
 abbrev pub untouched : Station → Turn

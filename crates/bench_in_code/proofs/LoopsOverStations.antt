@@ -60,25 +60,29 @@ module _ (turn : ℕ → Station → Turn) (start : List Station) where
   pub record Turned (i : ℕ) (modules : List Station) (said : List Spoken) (outs : List (List ℕ)) : Type 0 where
     pub eight : length start ≡ 8
     pub inside : i ≤ 8
+    pub many : length modules ≡ 8
     pub moved : modules ≡ modulesFrom i
     pub spoke : MadeDown i said (all spoken)
     pub written : MadeDown i outs (all wrote)
 
-  pub none-turned : length start ≡ 8 → (said : List Spoken) (outs : List (List ℕ)) → length said ≡ 8 → length outs ≡ 8 → Turned 8 start said outs
-  none-turned e said outs e′ e″ =
-      record {
+  pub none-turned : length start ≡ 8 → (said : List Spoken) (outs : List (List ℕ)) → length said ≡ 8 → length outs ≡ 8 → (i : ℕ) → i ≡ 8
+      → Turned i start said outs
+  none-turned e said outs e′ e″ i i-is =
+      subst (λ (k : ℕ). Turned k start said outs) (sym i-is)
+      (record {
         eight = e;
         inside = omega arith;
+        many = e;
         moved = sym (none-made _ _ 8 0 start e ∙ map-same start);
         spoke = nothing-made 8 e′ (e′ ∙ sym (length-each _ 0 start ∙ e));
         written = nothing-made 8 e″ (e″ ∙ sym (length-each _ 0 start ∙ e));
-      }
+      })
 
   pub one-turned : {i : ℕ} {modules : List Station} {said : List Spoken} {outs : List (List ℕ)} → Turned i modules said outs → (j : ℕ) → suc j ≡ i
       → (d m : Station) (s : Spoken) (out : List ℕ)
-      → (s ≡ spoken (turn j (getD modules j d))) × (out ≡ wrote (turn j (getD modules j d))) × (m ≡ turn j (getD modules j d) .after)
+      → (s ≡ spoken (turn j (getD modules j d))) × ((out ≡ wrote (turn j (getD modules j d))) × (m ≡ turn j (getD modules j d) .after))
       → Turned j (set modules j m) (set said j s) (set outs j out)
-  one-turned {i} {modules} {said} {outs} w j e d m s out (s-is, out-is, m-is) =
+  one-turned {i} {modules} {said} {outs} w j e d m s out (s-is, (out-is, m-is)) =
       let inside : j < length start = omega (arith, w .eight, w .inside) in
       let moved : modules ≡ modulesFrom (suc j) = rw e (w .moved) in
       let element : getD modules j d ≡ getD start j d = rw moved (not-yet-made _ _ j 0 start d d inside) in
@@ -87,6 +91,7 @@ module _ (turn : ℕ → Station → Turn) (start : List Station) where
       record {
         eight = w .eight;
         inside = omega (arith, w .inside);
+        many = length-set modules j m ∙ w .many;
         moved = rw (m-is, element, moved) (one-more-made _ _ j 0 j start d inside (omega arith));
         spoke =
         one-made j s s (omega (arith, inside, length-each (λ k x. spoken (turn k x)) 0 start)) spoken-now
@@ -97,13 +102,13 @@ module _ (turn : ℕ → Station → Turn) (start : List Station) where
       }
 
   -- the same of nodes in bytes
-  pub one-place-turned : (live : List Bool) {i : ℕ} {nodes : List (List ℕ)} {said : List Spoken} {outs : List (List ℕ)}
-      → Turned i (stationsIn live nodes) said outs → length nodes ≡ 8 → (j : ℕ) → suc j ≡ i → (e : List ℕ) (node : List ℕ) (s : Spoken) (out : List ℕ)
+  pub one-place-turned : (live : List Bool) (nodes : List (List ℕ)) {i : ℕ} {said : List Spoken} {outs : List (List ℕ)}
+      → Turned i (stationsIn live nodes) said outs → (j : ℕ) → suc j ≡ i → (e : List ℕ) (node : List ℕ) (s : Spoken) (out : List ℕ)
       → let t = turn j (stationIn (getD live j false) (getD nodes j e)) in
-      (s ≡ spoken t) × (out ≡ wrote t) × (stationIn (getD live j false) node ≡ t .after)
+      (s ≡ spoken t) × ((out ≡ wrote t) × (stationIn (getD live j false) node ≡ t .after))
       → Turned j (stationsIn live (set nodes j node)) (set said j s) (set outs j out)
-  one-place-turned live {i} {nodes} w many j e d node s out is =
-      let here = station-read live nodes j (stationIn false []) d (omega (arith, many, w .inside)) in
+  one-place-turned live nodes w j e d node s out is =
+      let here = station-read live nodes j (stationIn false []) d (omega (arith, w .many, as-many live nodes, w .inside)) in
       rw (node-stored live nodes j node) (one-turned w j e (stationIn false []) (stationIn (getD live j false) node) s out (rw here is))
 
   module _ {modules : List Station} {said : List Spoken} {outs : List (List ℕ)} (w : Turned 0 modules said outs) where
@@ -128,22 +133,22 @@ heardAt f to j m = hearTurn (getD to j false) (eqb j (f .owner)) f m
 -- when the loop ends
 module _ (b : Bench) (i : ℕ) (at-the-end : i ≡ 0) {modules : List Station} {said : List Spoken} {outs : List (List ℕ)} where
   pub all-ticked : Turned (λ j m. tickTurn m) (b .modules) i modules said outs
-      → (said ≡ spokenIn (tickOf b .said)) × (outs ≡ outputsIn (tickOf b .said)) × (record { modules = modules } ≡ tickOf b .bench)
+      → (said ≡ spokenIn (tickOf b .said)) × ((outs ≡ outputsIn (tickOf b .said)) × (record { modules = modules } ≡ tickOf b .bench))
   unfolding tickOf
   all-ticked w =
       let w′ = subst (λ (k : ℕ). Turned (λ j m. tickTurn m) (b .modules) k modules said outs) at-the-end w in
-      (all-spoke _ _ w′, all-wrote _ _ w′, all-turned _ _ w′)
+      (all-spoke _ _ w′, (all-wrote _ _ w′, all-turned _ _ w′))
 
   pub all-heard : (f : Frame) (to : List Bool) → isLiveIn (f .owner) b ≡ true → Turned (heardAt f to) (b .modules) i modules said outs
-      → (record { sent = true; said = said } ≡ sentOf (sendingOf f to b)) × (outs ≡ outputsIn (sendingOf f to b .said))
-      × (record { modules = modules } ≡ sendingOf f to b .bench)
+      → (record { sent = true; said = said } ≡ sentOf (sendingOf f to b))
+      × ((outs ≡ outputsIn (sendingOf f to b .said)) × (record { modules = modules } ≡ sendingOf f to b .bench))
   unfolding sendingOf
   all-heard f to live w =
       let w′ = subst (λ (k : ℕ). Turned (heardAt f to) (b .modules) k modules said outs) at-the-end w in
-      rw live (ap (λ (l : List Spoken). record { sent = true; said = l }) (all-spoke _ _ w′), all-wrote _ _ w′, all-turned _ _ w′)
+      rw live (ap (λ (l : List Spoken). record { sent = true; said = l }) (all-spoke _ _ w′), (all-wrote _ _ w′, all-turned _ _ w′))
 
 pub none-heard : (b : Bench) (f : Frame) (to : List Bool) → isLiveIn (f .owner) b ≡ false
     → (record { sent = false; said = spokenIn (replicate 8 silence) } ≡ sentOf (sendingOf f to b))
-    × (outputsIn (replicate 8 silence) ≡ outputsIn (sendingOf f to b .said)) × (b ≡ sendingOf f to b .bench)
+    × ((outputsIn (replicate 8 silence) ≡ outputsIn (sendingOf f to b .said)) × (b ≡ sendingOf f to b .bench))
 unfolding sendingOf
-none-heard b f to dead = rw dead (refl, refl, refl)
+none-heard b f to dead = rw dead (refl, (refl, refl))

@@ -1,6 +1,6 @@
 -- Laws of the bench in lent bytes: a place that is read, one whose node is stored, and one that dies.
-use mathlib.Core.Path.{_≡_, refl, ap}
-use mathlib.Core.Bool.{Bool, false}
+use mathlib.Core.Path.{_≡_, refl, sym, ap}
+use mathlib.Core.Bool.{Bool, true, false, true≢false}
 use mathlib.Core.List.{List, [], _∷_}
 use Prim.Native.Nat.{ℕ, zero, suc, _≤_, _<_}
 use native.Mathlib.Nat.{le-of-suc-le-suc, not-suc-le-zero}
@@ -56,3 +56,17 @@ is-live-in [] (n ∷ ns) zero h = refl
 is-live-in [] (n ∷ ns) (suc i) h = is-live-in [] ns i (omega arith)
 is-live-in (l ∷ ls) (n ∷ ns) zero h = refl
 is-live-in (l ∷ ls) (n ∷ ns) (suc i) h = is-live-in ls ns i (le-of-suc-le-suc h)
+
+-- where nothing is said nobody is live
+pub nobody-live-past : (live : List Bool) (i : ℕ) → length live ≤ i → false ≡ getD live i false
+nobody-live-past [] i h = refl
+nobody-live-past (l ∷ ls) zero h = absurd (not-suc-le-zero h)
+nobody-live-past (l ∷ ls) (suc i) h = nobody-live-past ls i (le-of-suc-le-suc h)
+
+pub live-inside : (live : List Bool) (i n : ℕ) → length live ≡ n → getD live i false ≡ true → i < n
+live-inside live i n e is = rw (sym e) (inside live i is)
+  where
+    inside : (ls : List Bool) (j : ℕ) → getD ls j false ≡ true → j < length ls
+    inside [] j e = absurd (true≢false (sym e))
+    inside (l ∷ ls) zero e = omega arith
+    inside (l ∷ ls) (suc j) e = let h = inside ls j e in omega arith

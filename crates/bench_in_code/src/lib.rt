@@ -5,13 +5,12 @@ use crate::outbox::Frames;
 use crate::stations::Spoken;
 use crate::stations::NodeBytes;
 use crate::stations::Output;
-use node_bytes::next_frame::next_frame;
 use wire::ids::Stream;
 use wire::reply::Reply;
 use wire::settings::Settings;
 ghost use mathlib.Core.Path.{_≡_};
 ghost use mathlib.Core.Bool.{false};
-ghost use lib.ListN.{getD, set};
+ghost use lib.ListN.{length, getD, set};
 ghost use lib.Dec.{ltb};
 ghost use Rattle.node.specs.Calls.{setUp, request};
 ghost use Rattle.bench_in_code.specs.InCode.{placeCount, benchOf, asked, requestedIn, noFrame, givingOf, sendingOf, tickOf};
@@ -28,6 +27,20 @@ pub struct Bench {
 // The nodes of the eight places, and the outputs of what they say.
 pub type Nodes = [NodeBytes; Bench::PLACES];
 pub type Outputs = [Output; Bench::PLACES];
+
+// How many places there are. An array has as many as its type says; lent as a slice, it says so.
+fn places(nodes: &[NodeBytes]) -> usize
+    ensures { λ r. ⌜ r ≡ length (now (nodes .entry)) ⌝ }
+{
+    nodes.len()
+}
+
+// And as many outputs.
+fn places_with(nodes: &[NodeBytes], _outs: &[Output]) -> usize
+    ensures { λ r. ⌜ r ≡ length (now (nodes .entry)) ⌝ }
+{
+    nodes.len()
+}
 
 // What a set up or a request answers; where `there` is false nobody answered, and nothing changed.
 pub struct Answered {
@@ -109,7 +122,7 @@ impl Bench {
         ensures leaves { λ _. ⌜ benchIn (self .live) (now (nodes .exit))
             ≡ asked (ltb who placeCount) (setUp stream settings) who (benchIn (self .live) (now (nodes .entry))) .bench ⌝ }
     {
-        if who >= Bench::PLACES {
+        if who >= places(nodes) {
             return Answered::NOBODY;
         }
         let reply = node_bytes::set_up::set_up(&mut nodes[who], stream, settings);
@@ -122,7 +135,10 @@ impl Bench {
         ensures leaves { λ _. ⌜ benchIn (self .live) (now (nodes .exit))
             ≡ requestedIn who stream (now (payload .entry)) (benchIn (self .live) (now (nodes .entry))) .bench ⌝ }
     {
-        if !self.is_live(who) {
+        if who >= places(nodes) {
+            return Answered::NOBODY;
+        }
+        if !self.live[who] {
             return Answered::NOBODY;
         }
         let reply = node_bytes::request::request(&mut nodes[who], stream, payload);
@@ -134,12 +150,13 @@ impl Bench {
         ensures answer { λ r. ⌜ r ≡ givenOf (givingOf who frames (benchIn (self .live) (now (nodes .entry)))) ⌝ }
         ensures leaves { λ _. ⌜ benchIn (self .live) (now (nodes .exit)) ≡ givingOf who frames (benchIn (self .live) (now (nodes .entry))) .bench ⌝ }
     {
-        if !self.is_live(who) {
+        if who >= places(nodes) {
             return Given::none(frames, Giving::Dead);
         }
-        let mut bytes = [0u8; Frame::ROOM];
-        let mut node = nodes[who];
-        let answer = next_frame(&mut node, &mut bytes);
+        if !self.live[who] {
+            return Given::none(frames, Giving::Dead);
+        }
+        let answer = stations::give(nodes[who]);
         let reply = answer.reply;
         if reply.number() != 0 {
             return Given::none(frames, Giving::Nothing);
@@ -147,8 +164,9 @@ impl Bench {
         if frames.count >= Frames::MOST {
             return Given::none(frames, Giving::Full);
         }
-        nodes[who] = node;
+        nodes[who] = answer.node;
         let id = answer.id;
+        let bytes = answer.bytes;
         let f = Frame {
             owner: who,
             id: id,
@@ -178,6 +196,7 @@ impl Bench {
         ensures outputs { λ _. ⌜ now (outs .exit) ≡ outputsIn (sendingOf frame to (benchIn (self .live) (now (nodes .entry))) .said) ⌝ }
         ensures leaves { λ _. ⌜ benchIn (self .live) (now (nodes .exit)) ≡ sendingOf frame to (benchIn (self .live) (now (nodes .entry))) .bench ⌝ }
     {
+        let mut i = places_with(nodes, outs);
         let mut said = [Spoken::NOTHING; Bench::PLACES];
         if !self.is_live(frame.owner) {
             *outs = [stations::CLEAR; Bench::PLACES];
@@ -187,7 +206,6 @@ impl Bench {
             };
         }
         let live = self.live;
-        let mut i: usize = Bench::PLACES;
         while i > 0 {
             i -= 1;
             said[i] = stations::hear(live[i], to[i], i == frame.owner, &mut nodes[i], frame, &mut outs[i]);
@@ -206,7 +224,7 @@ impl Bench {
     {
         let live = self.live;
         let mut said = [Spoken::NOTHING; Bench::PLACES];
-        let mut i: usize = Bench::PLACES;
+        let mut i = places_with(nodes, outs);
         while i > 0 {
             i -= 1;
             said[i] = stations::tick(live[i], &mut nodes[i], &mut outs[i]);

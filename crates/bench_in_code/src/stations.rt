@@ -3,10 +3,19 @@ use crate::outbox::Frame;
 use node::Node;
 use node_bytes::Written;
 use node_bytes::layout::NODE_SIZE;
+use node_bytes::next_frame::next_frame;
+use wire::ids::BusId;
 use wire::reply::Reply;
 ghost use mathlib.Core.Path.{_≡_};
 ghost use mathlib.Core.Bool.{true};
-ghost use Rattle.bench_in_code.specs.InCode.{tickTurn, hearTurn};
+ghost use lib.ListN.{replicate};
+ghost use Rattle.wire.specs.Frames.{maxPayload};
+ghost use Rattle.wire.specs.Delivered.{over};
+ghost use Rattle.node.specs.Nodes.{asGiven};
+ghost use Rattle.node.specs.Clock.{rolled};
+ghost use Rattle.node.specs.Calls.{outcome};
+ghost use Rattle.node_bytes.specs.Decoding.{decode};
+ghost use Rattle.bench_in_code.specs.InCode.{tickTurn, hearTurn, next as nextCall};
 ghost use Rattle.bench_in_code.specs.InBytes.{stationIn, spokenOf};
 
 pub type NodeBytes = [u8; NODE_SIZE];
@@ -81,4 +90,30 @@ pub(crate) fn tick(live: bool, node: &mut NodeBytes, out: &mut Output) -> Spoken
         return Spoken::NOTHING;
     }
     Spoken::of(node_bytes::tick::tick(node, out))
+}
+
+// A node after its next frame was given out, and that frame.
+pub(crate) struct Next {
+    pub node: NodeBytes,
+    pub reply: Reply,
+    pub id: BusId,
+    pub len: usize,
+    pub bytes: [u8; Frame::ROOM],
+}
+
+pub(crate) fn give(mut node: NodeBytes) -> Next
+    ensures answer { λ r. ⌜ record { node = decode (r .node); reply = r .reply; id = r .id; len = r .len } ≡ asGiven (outcome rolled nextCall (decode node)) ⌝ }
+    ensures output { λ r. ⌜ r .bytes ≡ over (outcome rolled nextCall (decode node) .bytes) (replicate maxPayload 0) ⌝ }
+{
+    let mut bytes = [0u8; Frame::ROOM];
+    let answer = next_frame(&mut node, &mut bytes);
+    let reply = answer.reply;
+    let id = answer.id;
+    Next {
+        node: node,
+        reply: reply,
+        id: id,
+        len: answer.len,
+        bytes: bytes,
+    }
 }
