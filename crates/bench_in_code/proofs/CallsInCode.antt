@@ -91,7 +91,7 @@ module _ (live : List Bool) (nodes : List (List ℕ)) (many : length nodes ≡ 8
       (ap answeredOf e, ap (λ (a : Asked). a .bench) e)
 
   -- the node at a place, before and after a call on its bytes
-  module _ (who : ℕ) (inside : who < 8) (d after : List ℕ) (whole : length (getD nodes who d) ≡ nodeSize) where
+  module _ (who : ℕ) (inside : who < 8) (d after : List ℕ) where
     abbrev before : List ℕ
     before = getD nodes who d
 
@@ -101,29 +101,18 @@ module _ (live : List Bool) (nodes : List (List ℕ)) (many : length nodes ≡ 8
     read : getD (stationsIn live nodes) who nobody ≡ stationIn (getD live who false) before
     read = station-read live nodes who nobody d (omega (arith, many))
 
-    pub stored-node : m ≡ kept (withNode (decode after) (shown (getD (stationsIn live nodes) who nobody)))
+    stored-node : m ≡ kept (withNode (decode after) (shown (getD (stationsIn live nodes) who nobody)))
     stored-node = rw read
 
-    pub answers-in : (there : Bool) → there ≡ true → (c : Call) (r : Reply) → r ≡ lentOutcome c before .reply → Leaves c before after
+    pub answers-in : length before ≡ nodeSize → (there : Bool) → there ≡ true → (c : Call) (r : Reply) → r ≡ lentOutcome c before .reply
+        → Leaves c before after
         → (record { there = true; reply = r } ≡ answeredOf (asked there c who (benchIn live nodes)))
         × (benchIn live (set nodes who after) ≡ asked there c who (benchIn live nodes) .bench)
-    answers-in there t c r r-is leaves =
+    answers-in whole there t c r r-is leaves =
         let a-is : record { node = decode after; reply = r } ≡ asAnswered (outcome rolled c (decode before)) =
         rw (r-is, leaves .node, as-node c before whole) in
         let e = answers-there (benchIn live nodes) eight-places who inside nobody there t c (record { node = decode after; reply = r }) (rw read a-is) m stored-node in
         (ap answeredOf e, rw (node-stored live nodes who after) (ap (λ (x : Asked). x .bench) e))
-
-    pub given-in : (g : GivenOut) → g ≡ asGivenOut (lentOutcome next before) → Leaves next before after
-        → record { node = decode after; reply = g .reply; id = g .id; len = g .len }
-        ≡ asGiven (outcome rolled next (getD (stationsIn live nodes) who nobody .node))
-    given-in g g-is leaves = rw (read, g-is, leaves .node, as-node next before whole)
-
-    pub written-in : (out : List ℕ) → out ≡ over (lentOutcome next before .bytes) (replicate maxPayload 0)
-        → out ≡ over (outcome rolled next (getD (stationsIn live nodes) who nobody .node) .bytes) (replicate maxPayload 0)
-    written-in out is = is ∙ rw (read, as-node next before whole)
-
-    pub stored-in : (x : Bench) → record { modules = set (stationsIn live nodes) who m } ≡ x → benchIn live (set nodes who after) ≡ x
-    stored-in x e = rw (node-stored live nodes who after) e
 
 -- ── a death ──
 pub dies-inside : (live : List Bool) (who : ℕ) → who < 8 → length live ≡ 8 → Dies who live (set live who false)
@@ -149,10 +138,6 @@ eight-of n x e = rw e
 
 pub all-fresh : (n : ℕ) → benchIn (map (λ (i : ℕ). ltb i n) places) (replicate 8 zeros) ≡ benchOf n
 all-fresh n = eight-of n zeros zeros-are-fresh
-
--- ── giving out, told apart ──
-pub told-of-giving : (g h : Gave) → g ≡ h → (givenOf g ≡ givenOf h) × (g .bench ≡ h .bench)
-told-of-giving g h e = (ap givenOf e, ap (λ (x : Gave). x .bench) e)
 
 -- ── a module's turn ──
 -- what a module does and says, told apart
@@ -230,3 +215,51 @@ module _ (b : Bench) (eight : length (b .modules) ≡ 8) (who : ℕ) (fs : Frame
         out-is ∙ ap (λ (m : Station). over (outcome rolled next (m .node) .bytes) (replicate maxPayload 0)) (read-is b eight who inside d) in
         let bench = stored b eight who inside d (withNode (a .node)) m m-is in
         rw (live, is-done true e, lt-leb capacity (fs .count) room, fs′-is, bench, by-outcome, out-is′)
+
+-- ── giving out, of nodes in bytes ──
+abbrev Next : (node : List ℕ) (a : Given) (out : List ℕ) → Type 0
+Next node a out = (a ≡ asGiven (outcome rolled next (decode node))) × (out ≡ over (outcome rolled next (decode node) .bytes) (replicate maxPayload 0))
+
+pub next-given : (before after : List ℕ) → length before ≡ nodeSize → (g : GivenOut) → g ≡ asGivenOut (lentOutcome next before)
+    → (out : List ℕ) → out ≡ over (lentOutcome next before .bytes) (replicate maxPayload 0) → Leaves next before after
+    → Next before (record { node = decode after; reply = g .reply; id = g .id; len = g .len }) out
+next-given before after whole g g-is out out-is leaves =
+    (rw (g-is, leaves .node, as-node next before whole), rw (as-node next before whole) at out-is)
+
+module _ (live : List Bool) (nodes : List (List ℕ)) (many : length nodes ≡ 8) (who : ℕ) (fs : Frames) where
+  abbrev Tells : Gave → Type 0
+  Tells g = (givenOf g ≡ givenOf (givingOf who fs (benchIn live nodes))) × (g .bench ≡ givingOf who fs (benchIn live nodes) .bench)
+
+  told : (g : Gave) → g ≡ givingOf who fs (benchIn live nodes) → Tells g
+  told g e = (ap givenOf e, ap (λ (x : Gave). x .bench) e)
+
+  pub dead-in : isLiveIn who (benchIn live nodes) ≡ false → Tells (notGiven Dead fs (benchIn live nodes))
+  dead-in dead = told _ (dead-gives-nothing (benchIn live nodes) (eight-places live nodes many) who fs dead)
+
+  module _ (is-live : isLiveIn who (benchIn live nodes) ≡ true) (inside : who < 8) (d after : List ℕ) (a : Given) (left : decode after ≡ a .node)
+      (out : List ℕ) (made : Next (getD nodes who d) a out) where
+    read-here : getD (stationsIn live nodes) who nobody ≡ stationIn (getD live who false) (getD nodes who d)
+    read-here = station-read live nodes who nobody d (omega (arith, many, inside))
+
+    made-here : a ≡ asGiven (outcome rolled next (getD (stationsIn live nodes) who nobody .node))
+    made-here = rw read-here (made .0)
+
+    pub nothing-in : isDone (a .reply) ≡ false → Tells (notGiven Nothing fs (benchIn live nodes))
+    nothing-in e = told _ (nothing-to-give (benchIn live nodes) (eight-places live nodes many) who fs is-live inside nobody a made-here e)
+
+    pub full-in : isDone (a .reply) ≡ true → capacity ≤ fs .count → Tells (notGiven Full fs (benchIn live nodes))
+    full-in e full = told _ (no-room (benchIn live nodes) (eight-places live nodes many) who fs is-live inside nobody a made-here e full)
+
+    pub given-in : isDone (a .reply) ≡ true → fs .count < capacity → (fs′ : Frames)
+        → fs′ ≡ withFrame (record { owner = who; id = a .id; len = a .len; bytes = out }) fs
+        → (record { frames = fs′; giving = Out; frame = record { owner = who; id = a .id; len = a .len; bytes = out } }
+        ≡ givenOf (givingOf who fs (benchIn live nodes)))
+        × (benchIn live (set nodes who after) ≡ givingOf who fs (benchIn live nodes) .bench)
+    given-in e room fs′ fs′-is =
+        let m : Station = stationIn (getD live who false) after in
+        let m-is : m ≡ kept (withNode (a .node) (shown (getD (stationsIn live nodes) who nobody))) = rw (read-here, sym left) in
+        let t =
+        told _
+        (gives-out (benchIn live nodes) (eight-places live nodes many) who fs is-live inside nobody a made-here e room out (rw read-here (made .1)) m m-is fs′
+        fs′-is) in
+        (t .0, rw (node-stored live nodes who after) (t .1))

@@ -156,7 +156,8 @@ impl Bench {
         if !self.live[who] {
             return Given::none(frames, Giving::Dead);
         }
-        let answer = stations::give(nodes[who]);
+        let before = nodes[who];
+        let answer = stations::give(before);
         let reply = answer.reply;
         if reply.number() != 0 {
             return Given::none(frames, Giving::Nothing);
@@ -164,7 +165,8 @@ impl Bench {
         if frames.count >= Frames::MOST {
             return Given::none(frames, Giving::Full);
         }
-        nodes[who] = answer.node;
+        let after = answer.node;
+        nodes[who] = after;
         let id = answer.id;
         let bytes = answer.bytes;
         let f = Frame {

@@ -17,15 +17,15 @@ use Rattle.bench_in_code.proofs.Bench.request.Tie as tie
 eight : (c : tie.After-places) → length (c .before .before .before .before .args .nodes .now) ≡ 8
 eight c = search needs
 
-eight-live : (c : tie.Start) → length (c .args .self .live) ≡ 8
+eight-live : (c : tie.Start) → length (c .args .t1 .live) ≡ 8
 eight-live c = search needs
 
 returns : tie.Need-returns
 returns c =
     let p = c .before in
     let s = p .before .before .before .before in
-    let b = benchIn (s .args .self .live) (s .args .nodes .now) in
-    nobody-in (s .args .self .live) (s .args .nodes .now) (eight p) _
+    let b = benchIn (s .args .t1 .live) (s .args .nodes .now) in
+    nobody-in (s .args .t1 .live) (s .args .nodes .now) (eight p) _
     (sym (past-is-dead b (eight-places _ _ (eight p)) (s .args .who) (omega (arith, eight p, p .places .ensures))))
     (request (s .args .stream) (now (s .args .payload))) (s .args .who)
 
@@ -33,8 +33,8 @@ returns-2 : tie.Need-returns-2
 returns-2 c =
     let p = c .before .before .before in
     let s = p .before .before .before .before in
-    nobody-in (s .args .self .live) (s .args .nodes .now) (eight p) _
-    (is-live-in (s .args .self .live) (s .args .nodes .now) (s .args .who) (omega (arith, eight p, eight-live s)) ∙ not-true _ (c .if2 .taken))
+    nobody-in (s .args .t1 .live) (s .args .nodes .now) (eight p) _
+    (is-live-in (s .args .t1 .live) (s .args .nodes .now) (s .args .who) (omega (arith, eight p, eight-live s)) ∙ not-true _ (c .if2 .taken))
     (request (s .args .stream) (now (s .args .payload))) (s .args .who)
 
 returns-3 : tie.Need-returns-3
@@ -43,9 +43,9 @@ returns-3 c =
     let p = e .before .before .before in
     let s = p .before .before .before .before in
     let u = c .request .ensures in
-    answers-in (s .args .self .live) (s .args .nodes .now) (eight p) (s .args .who) (omega (arith, eight p, p .places .ensures)) [] _
+    answers-in (s .args .t1 .live) (s .args .nodes .now) (eight p) (s .args .who) (omega (arith, eight p, p .places .ensures)) [] _
     (c .before .request-arg .given .0 .1) _
-    (is-live-in (s .args .self .live) (s .args .nodes .now) (s .args .who) (omega (arith, eight p, eight-live s)) ∙ not-false _ (e .if2 .left))
+    (is-live-in (s .args .t1 .live) (s .args .nodes .now) (s .args .who) (omega (arith, eight p, eight-live s)) ∙ not-false _ (e .if2 .left))
     (request (s .args .stream) (now (s .args .payload))) _ (u .0) (u .1)
 
 pub request-spec : {M : Type 1} → statement M
