@@ -1,12 +1,11 @@
 -- The ways through the calls of the bench in code: what each return leaves is what the definition says.
 use mathlib.Core.Path.{_≡_, refl, sym, ap, _∙_}
 use mathlib.Core.Bool.{Bool, true, false, not, _&&_}
-use mathlib.Core.List.{List, [], map}
+use mathlib.Core.List.{List, []}
 use Prim.Native.Nat.{ℕ, _≤_, _<_}
 use native.Mathlib.Omega.{arith}
 use lib.ListN.{length, getD, set, replicate, take, drop, take-append-drop}
 use lib.Seq.{take-append-seam}
-use lib.Dec.{ltb}
 use borrow.Author.Tests.{le-leb, lt-leb}
 use Rattle.wire.specs.declared.reply.Reply.{Reply}
 use Rattle.wire.specs.declared.reply.Reply.the-variants.{Done}
@@ -32,8 +31,8 @@ use Rattle.bench.specs.SetUp.{isDone}
 use Rattle.bench.specs.Bench as history
 use Rattle.bench.specs.Events.{lent, withNode, dead}
 use Rattle.bench_in_code.specs.InCode.{nobody, shown, kept, silence, tickTurn, hearTurn, payloadOf, moduleIn, isLiveIn, callIn, onModule}
-use Rattle.bench_in_code.specs.InCode.{notAsked, asked, next, givingOf, withFrame, notGiven, capacity, places, benchOf}
-use Rattle.bench_in_code.specs.InBytes.{stationIn, stationsIn, benchIn, spokenOf, answeredOf, givenOf, Dies}
+use Rattle.bench_in_code.specs.InCode.{notAsked, asked, next, givingOf, withFrame, notGiven, capacity, benchOf}
+use Rattle.bench_in_code.specs.InBytes.{stationIn, stationsIn, benchIn, spokenOf, answeredOf, givenOf, liveOf, Dies}
 use Rattle.bench_in_code.proofs.StationsInBytes.{as-many, station-read, node-stored, liveness-stored}
 use Rattle.bench.proofs.laws.ListPlaces.{nth-inside, nth-past, at-inside, at-past}
 
@@ -132,11 +131,11 @@ zeros = replicate nodeSize 0
 zeros-are-fresh : decode zeros ≡ fresh
 zeros-are-fresh = ap decode (cleared-is-fresh zeros refl) ∙ fresh-written zeros refl
 
-eight-of : (n : ℕ) (x : List ℕ) → decode x ≡ fresh → benchIn (map (λ (i : ℕ). ltb i n) places) (replicate 8 x) ≡ benchOf n
+eight-of : (n : ℕ) (x : List ℕ) → decode x ≡ fresh → benchIn (liveOf n) (replicate 8 x) ≡ benchOf n
 unfolding stationsIn
 eight-of n x e = rw e
 
-pub all-fresh : (n : ℕ) → benchIn (map (λ (i : ℕ). ltb i n) places) (replicate 8 zeros) ≡ benchOf n
+pub all-fresh : (n : ℕ) → benchIn (liveOf n) (replicate 8 zeros) ≡ benchOf n
 all-fresh n = eight-of n zeros zeros-are-fresh
 
 -- ── a module's turn ──

@@ -1,6 +1,7 @@
 pub mod StationsInBytes
 pub mod LoopsOverStations
 pub mod CallsInCode
+pub mod Unique
 pub mod InStep
 pub mod SetUpInStep
 pub mod OutboxKeepsFrames

@@ -34,8 +34,8 @@ module _ {A : Type 0} {l whole : List A} where
       record {
         long = length-set l j x ∙ w .long;
         same =
-        drop-cons (set l j x) j d here
-        ∙ rw (getD-set-same l j x d in-l, drop-set-lt (suc j) l j x (omega arith), w .same, x-is) (sym (drop-cons whole j d inside));
+            drop-cons (set l j x) j d here
+            ∙ rw (getD-set-same l j x d in-l, drop-set-lt (suc j) l j x (omega arith), w .same, x-is) (sym (drop-cons whole j d inside));
       }
 
 -- what is made of each element and its place
@@ -94,11 +94,11 @@ module _ (turn : ℕ → Station → Turn) (start : List Station) where
         many = length-set modules j m ∙ w .many;
         moved = rw (m-is, element, moved) (one-more-made _ _ j 0 j start d inside (omega arith));
         spoke =
-        one-made j s s (omega (arith, inside, length-each (λ k x. spoken (turn k x)) 0 start)) spoken-now
-        (s-is ∙ rw element (sym (each-at (λ k x. spoken (turn k x)) 0 j j start d s inside (omega arith))));
+            one-made j s s (omega (arith, inside, length-each (λ k x. spoken (turn k x)) 0 start)) spoken-now
+            (s-is ∙ rw element (sym (each-at (λ k x. spoken (turn k x)) 0 j j start d s inside (omega arith))));
         written =
-        one-made j out out (omega (arith, inside, length-each (λ k x. wrote (turn k x)) 0 start)) written-now
-        (out-is ∙ rw element (sym (each-at (λ k x. wrote (turn k x)) 0 j j start d out inside (omega arith))));
+            one-made j out out (omega (arith, inside, length-each (λ k x. wrote (turn k x)) 0 start)) written-now
+            (out-is ∙ rw element (sym (each-at (λ k x. wrote (turn k x)) 0 j j start d out inside (omega arith))));
       }
 
   -- the same of nodes in bytes

@@ -4,6 +4,7 @@ use mathlib.Core.Path.{_≡_}
 use mathlib.Core.Bool.{Bool, false}
 use mathlib.Core.List.{List, [], _∷_, map}
 use lib.ListN.{length}
+use lib.Dec.{ltb}
 use Rattle.node_bytes.specs.Decoding.{decode}
 use Rattle.bench.specs.Events.{dead}
 use Rattle.bench_in_code.specs.declared.stations.Spoken.{Spoken}
@@ -11,7 +12,7 @@ use Rattle.bench_in_code.specs.declared.Answered.{Answered}
 use Rattle.bench_in_code.specs.declared.Sending.{Sending}
 use Rattle.bench_in_code.specs.declared.Given.{Given}
 use Rattle.bench_in_code.specs.Values.{Station, Said, Bench, Asked, Sent, Gave}
-use Rattle.bench_in_code.specs.InCode.{placeCount, onModule}
+use Rattle.bench_in_code.specs.InCode.{placeCount, places, onModule}
 
 abbrev pub stationIn : (live : Bool) → (node : List ℕ) → Station
 stationIn live node = record { node = decode node; live = live }
@@ -24,6 +25,10 @@ stationsIn (l ∷ ls) (n ∷ ns) = stationIn l n ∷ stationsIn ls ns
 
 abbrev pub benchIn : (live : List Bool) → (nodes : List (List ℕ)) → Bench
 benchIn live nodes = record { modules = stationsIn live nodes }
+
+-- so many are live
+abbrev pub liveOf : ℕ → List Bool
+liveOf n = map (λ (i : ℕ). ltb i n) places
 
 -- a module's death, whatever the nodes are
 abbrev pub Dies : ℕ → (before after : List Bool) → Type 0
@@ -50,3 +55,14 @@ sentOf s = record { sent = s .sent; said = spokenIn (s .said) }
 
 abbrev pub givenOf : Gave → Given
 givenOf g = record { frames = g .frames; giving = g .giving; frame = g .frame }
+
+-- ── promises that fix the bench and the outputs ──
+-- for every input any two contents of the lent nodes that meet a promise are the same bench, and any two contents of the lent outputs are equal
+module _ {L : Type 0} {I A E : L → Type 0} (promise : (l : L) → I l → A l → E l → Type 0) where
+  abbrev pub OneBench : ((l : L) → I l → List Bool) → ((l : L) → E l → List (List ℕ)) → Type 0
+  OneBench live nodes =
+      (l : L) (input : I l) (a b : A l) (s t : E l) → promise l input a s → promise l input b t
+      → benchIn (live l input) (nodes l s) ≡ benchIn (live l input) (nodes l t)
+
+  abbrev pub OneOutputs : ((l : L) → E l → List (List ℕ)) → Type 0
+  OneOutputs outs = (l : L) (input : I l) (a b : A l) (s t : E l) → promise l input a s → promise l input b t → outs l s ≡ outs l t

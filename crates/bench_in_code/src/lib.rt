@@ -2,9 +2,9 @@
 // module that was never live. The nodes stand in bytes that the caller lends, and so does what they write.
 use crate::outbox::Frame;
 use crate::outbox::Frames;
-use crate::stations::Spoken;
 use crate::stations::NodeBytes;
 use crate::stations::Output;
+use crate::stations::Spoken;
 use wire::ids::Stream;
 use wire::reply::Reply;
 use wire::settings::Settings;
@@ -14,7 +14,7 @@ ghost use lib.ListN.{length, getD, set};
 ghost use lib.Dec.{ltb};
 ghost use Rattle.node.specs.Calls.{setUp, request};
 ghost use Rattle.bench_in_code.specs.InCode.{placeCount, benchOf, asked, requestedIn, noFrame, givingOf, sendingOf, tickOf};
-ghost use Rattle.bench_in_code.specs.InBytes.{benchIn, Dies, spokenIn, outputsIn, answeredOf, sentOf, givenOf};
+ghost use Rattle.bench_in_code.specs.InBytes.{benchIn, liveOf, Dies, spokenIn, outputsIn, answeredOf, sentOf, givenOf};
 
 pub mod outbox;
 pub mod stations;
@@ -26,6 +26,7 @@ pub struct Bench {
 
 // The nodes of the eight places, and the outputs of what they say.
 pub type Nodes = [NodeBytes; Bench::PLACES];
+
 pub type Outputs = [Output; Bench::PLACES];
 
 // How many places there are. An array has as many as its type says; lent as a slice, it says so.
@@ -99,25 +100,23 @@ impl Bench {
 
     // So many fresh modules, at most eight.
     pub fn of(n: usize, nodes: &mut Nodes) -> Bench
-        ensures { λ r. ⌜ benchIn (r .live) (now (nodes .exit)) ≡ benchOf n ⌝ }
+        ensures answer { λ r. ⌜ r ≡ record { live = liveOf n } ⌝ }
+        ensures leaves { λ _. ⌜ benchIn (liveOf n) (now (nodes .exit)) ≡ benchOf n ⌝ }
     {
         *nodes = [stations::FRESH; Bench::PLACES];
         Bench {
-            live: [
-                0 < n,
-                1 < n,
-                2 < n,
-                3 < n,
-                4 < n,
-                5 < n,
-                6 < n,
-                7 < n,
-            ],
+            live: [0 < n, 1 < n, 2 < n, 3 < n, 4 < n, 5 < n, 6 < n, 7 < n],
         }
     }
 
     // Sets up a stream at a module.
-    pub fn set_up(self, nodes: &mut Nodes, who: usize, stream: Stream, settings: Settings) -> Answered
+    pub fn set_up(
+        self,
+        nodes: &mut Nodes,
+        who: usize,
+        stream: Stream,
+        settings: Settings,
+    ) -> Answered
         ensures answer { λ r. ⌜ r ≡ answeredOf (asked (ltb who placeCount) (setUp stream settings) who (benchIn (self .live) (now (nodes .entry)))) ⌝ }
         ensures leaves { λ _. ⌜ benchIn (self .live) (now (nodes .exit))
             ≡ asked (ltb who placeCount) (setUp stream settings) who (benchIn (self .live) (now (nodes .entry))) .bench ⌝ }
@@ -193,7 +192,13 @@ impl Bench {
     }
 
     // A frame is sent, and heard by the live modules of those named, other than its owner.
-    pub fn send(self, nodes: &mut Nodes, frame: Frame, to: [bool; Bench::PLACES], outs: &mut Outputs) -> Sending
+    pub fn send(
+        self,
+        nodes: &mut Nodes,
+        frame: Frame,
+        to: [bool; Bench::PLACES],
+        outs: &mut Outputs,
+    ) -> Sending
         ensures answer { λ r. ⌜ r ≡ sentOf (sendingOf frame to (benchIn (self .live) (now (nodes .entry)))) ⌝ }
         ensures outputs { λ _. ⌜ now (outs .exit) ≡ outputsIn (sendingOf frame to (benchIn (self .live) (now (nodes .entry))) .said) ⌝ }
         ensures leaves { λ _. ⌜ benchIn (self .live) (now (nodes .exit)) ≡ sendingOf frame to (benchIn (self .live) (now (nodes .entry))) .bench ⌝ }
@@ -202,20 +207,21 @@ impl Bench {
         let mut said = [Spoken::NOTHING; Bench::PLACES];
         if !self.is_live(frame.owner) {
             *outs = [stations::CLEAR; Bench::PLACES];
-            return Sending {
-                sent: false,
-                said,
-            };
+            return Sending { sent: false, said };
         }
         let live = self.live;
         while i > 0 {
             i -= 1;
-            said[i] = stations::hear(live[i], to[i], i == frame.owner, &mut nodes[i], frame, &mut outs[i]);
+            said[i] = stations::hear(
+                live[i],
+                to[i],
+                i == frame.owner,
+                &mut nodes[i],
+                frame,
+                &mut outs[i],
+            );
         }
-        Sending {
-            sent: true,
-            said,
-        }
+        Sending { sent: true, said }
     }
 
     // A common tick reaches every live module.
@@ -236,7 +242,7 @@ impl Bench {
 
     // A module dies.
     pub fn death(mut self, who: usize) -> Bench
-        ensures answer { λ r. ⌜ r .live ≡ set (self .live) who false ⌝ }
+        ensures answer { λ r. ⌜ r ≡ record { live = set (self .live) who false } ⌝ }
         ensures leaves { λ r. ⌜ Dies who (self .live) (r .live) ⌝ }
     {
         if who < Bench::PLACES {

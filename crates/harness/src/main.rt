@@ -45,7 +45,16 @@ fn main() {
             }
             Route::Sending => {
                 let named = sending::frame_in(frames, line);
-                let answer = sending::line(verb, state, &mut nodes, named, line, &mut outs, &mut out, to);
+                let answer = sending::line(
+                    verb,
+                    state,
+                    &mut nodes,
+                    named,
+                    line,
+                    &mut outs,
+                    &mut out,
+                    to,
+                );
                 state = answer.state;
                 to = answer.to;
             }

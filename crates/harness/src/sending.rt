@@ -148,7 +148,14 @@ fn put_sent(out: &mut Buffer, to: usize, sent: Sending, outs: &Outputs) -> usize
 
 // `M:REPLY`, and `:STREAM:PAYLOAD` where hearing delivered; a space before it where another heard before. Nothing of one that
 // did not hear.
-fn put_hearing(out: &mut Buffer, to: usize, module: usize, more: bool, said: Spoken, bytes: &[u8]) -> usize {
+fn put_hearing(
+    out: &mut Buffer,
+    to: usize,
+    module: usize,
+    more: bool,
+    said: Spoken,
+    bytes: &[u8],
+) -> usize {
     if !said.heard {
         return to;
     }

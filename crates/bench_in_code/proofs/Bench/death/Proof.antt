@@ -1,7 +1,8 @@
 -- `Bench::death` meets its contract: the module that died is live no longer; past the places nothing changes.
 use native.Mathlib.Omega.{arith}
-use mathlib.Core.Path.{_≡_, refl, sym, ap, _∙_}
-use mathlib.Core.List.{[]}
+use mathlib.Core.Path.{_≡_, refl, sym, ap}
+use mathlib.Core.Bool.{Bool}
+use mathlib.Core.List.{List}
 use lib.ListN.{length}
 use lib.Seq.{set-out}
 use borrow.Author.Needs.{needs}
@@ -17,7 +18,7 @@ returns : tie.Need-returns
 returns c = (refl, dies-inside _ _ (omega arith) (eight (c .before)))
 
 returns-2 : tie.Need-returns-2
-returns-2 c = (sym (set-out _ _ _ (omega (arith, eight (c .before)))), dies-past _ _ (omega arith))
+returns-2 c = (ap (λ (l : List Bool). record { live = l }) (sym (set-out _ _ _ (omega (arith, eight (c .before))))), dies-past _ _ (omega arith))
 
 pub death-spec : {M : Type 1} → statement M
 death-spec = tie.close (tie.spec (λ c. search needs) returns returns-2)
