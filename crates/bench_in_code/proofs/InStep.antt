@@ -28,14 +28,11 @@ use Rattle.node.proofs.next_frame.Cases.{next-facts, next-passes, next-cases}
 use Rattle.node.proofs.kept.EveryCall.{kept-by}
 use Rattle.node.proofs.rollover.SameAnswers.{rolls}
 use Rattle.one_stream.proofs.Truth.{and-l, is-true, so}
-use Rattle.bench_in_code.specs.declared.stations.Station.{Station}
-use Rattle.bench_in_code.specs.declared.stations.Said.{Said}
-use Rattle.bench_in_code.specs.declared.stations.Turn.{Turn}
 use Rattle.bench_in_code.specs.declared.outbox.Frame as kept-frame
 use Rattle.bench_in_code.specs.declared.outbox.Frames.{Frames}
-use Rattle.bench_in_code.specs.declared.Bench as coded
+use Rattle.bench_in_code.specs.Values as coded
 use Rattle.bench_in_code.specs.declared.Giving.the-variants.{Out}
-use Rattle.bench_in_code.specs.declared.Gave.{Gave}
+use Rattle.bench_in_code.specs.Values.{Station, Said, Turn, Gave}
 use Rattle.bench.specs.Lists.{nth, each}
 use Rattle.bench.specs.SetUp.{isDone}
 use Rattle.bench.specs.Bench.{Bench, Module, Frame, Delivery, recordsOf, pendingSince, moduleAt, sameStream, isLive, bookOf, Which, frameOf, ownerOf}

@@ -13,22 +13,19 @@ use Rattle.wire.specs.declared.reply.Reply.the-variants.{Done}
 use Rattle.wire.specs.Delivered.{over}
 use Rattle.node.specs.Clock.{unbounded}
 use Rattle.node.specs.Calls as calls
-use Rattle.bench_in_code.specs.declared.stations.Said.{Said}
 use Rattle.bench_in_code.specs.declared.outbox.Frame as kept-frame
 use Rattle.bench_in_code.specs.declared.outbox.Frames.{Frames}
-use Rattle.bench_in_code.specs.declared.Bench as coded
-use Rattle.bench_in_code.specs.declared.Asked.{Asked}
+use Rattle.bench_in_code.specs.Values as coded
+use Rattle.bench_in_code.specs.Values.{Said, Asked, Sent, Gave}
 use Rattle.bench_in_code.specs.declared.Giving.{Giving}
 use Rattle.bench_in_code.specs.declared.Giving.the-variants.{Dead, Nothing, Full, Out}
-use Rattle.bench_in_code.specs.declared.Gave.{Gave}
-use Rattle.bench_in_code.specs.declared.Sent.{Sent}
 use Rattle.bench.specs.Lists.{at, every}
 use Rattle.bench.specs.Bench.{Bench, Delivery, recordsOf, Which, moduleAt, isLive, bookOf, frameOf, ownerOf}
 use Rattle.bench.specs.SetUp.{Entry, Part, Plan, isDone, proper, start}
 use Rattle.bench.specs.Events as rules
 use Rattle.bench.specs.Events.{To, named, Event, asks, gives, sends, ticks, dies, step, run, lent, dead, heard, atOnce, deliveries, next}
 use Rattle.bench.specs.Rules.{one, keepsSoFar}
-use Rattle.bench_in_code.specs.InCode.{silence, payloadOf, capacity, noFrames, frameIn, placeCount, places, benchOf, isLiveIn, onModule, asked}
+use Rattle.bench_in_code.specs.InCode.{silence, payloadOf, capacity, noFrames, frameIn, placeCount, places, benchOf, onModule, asked, requestedIn}
 use Rattle.bench_in_code.specs.InCode.{tickOf, sendingOf, givingOf}
 use Rattle.bench_in_code.specs.InStep.{InStep, KeptAs, Names}
 
@@ -48,7 +45,7 @@ pub data Command : Type 0 where
 
 -- ── what its functions answer to that, and leave ──
 abbrev pub requestOf : ℕ → Stream → List ℕ → Coded → Asked
-requestOf i z p x = asked (isLiveIn i (x .bench)) (calls.request z p) i (x .bench)
+requestOf i z p x = requestedIn i z p (x .bench)
 
 abbrev pub giveOf : ℕ → Coded → Gave
 giveOf i x = givingOf i (x .outbox) (x .bench)
