@@ -16,13 +16,18 @@ use Rattle.node.specs.declared.Given.{Given}
 use Rattle.node.specs.Nodes.{fresh, asAnswered, asGiven}
 use Rattle.node.specs.Clock.{rolled}
 use Rattle.node.specs.Calls.{Call, outcome, tick, hear}
+use Rattle.node.specs.Told.{ofFrame, ofTick}
+use Rattle.node.proofs.Cases.{by-case}
+use Rattle.node.proofs.hear.Cases.{hear-cases}
+use Rattle.node.proofs.tick.Cases.{tick-cases}
 use Rattle.bench_in_code.specs.declared.outbox.Frame.{Frame}
 use Rattle.bench_in_code.specs.declared.outbox.Frames.{Frames}
-use Rattle.node_bytes.specs.declared.Written.{Written}
+use Rattle.node_bytes.specs.declared.hear.LentHeard.{LentHeard}
+use Rattle.node_bytes.specs.declared.tick.LentTicked.{LentTicked}
 use Rattle.node_bytes.specs.declared.next_frame.GivenOut.{GivenOut}
 use Rattle.node_bytes.specs.Decoding.{decode}
 use Rattle.node_bytes.specs.Layout.{nodeSize}
-use Rattle.node_bytes.specs.LentCalls.{lentOutcome, asWritten, asGivenOut, Leaves}
+use Rattle.node_bytes.specs.LentCalls.{lentOutcome, asLentHeard, asLentTicked, asGivenOut, Leaves}
 use Rattle.node_bytes.proofs.Calling.{as-node}
 use Rattle.node_bytes.proofs.Lent.{cleared-is-fresh, fresh-written}
 use Rattle.bench_in_code.specs.Values.{Station, Turn, Bench, Asked, Gave}
@@ -148,23 +153,46 @@ abbrev pub untouched : Station → Turn
 untouched m = record { after = m; said = silence }
 
 -- a module whose node answered on its lent bytes
-abbrev pub answering : (live : Bool) (after : List ℕ) → Written → (out : List ℕ) → Turn
-answering live after w out =
-    record { after = stationIn live after; said = record { heard = true; reply = w .reply; len = w .written; bytes = out } }
+abbrev pub hearing : (live : Bool) (after : List ℕ) → LentHeard → (out : List ℕ) → Turn
+hearing live after w out =
+    record {
+      after = stationIn live after;
+      said = record { heard = true; reply = w .reply; len = w .written; bytes = out; report = ofFrame (w .told) };
+    }
+
+abbrev pub ticking : (live : Bool) (after : List ℕ) → LentTicked → (out : List ℕ) → Turn
+ticking live after w out =
+    record {
+      after = stationIn live after;
+      said = record { heard = true; reply = w .reply; len = w .written; bytes = out; report = ofTick (w .dropped) (w .delivered) };
+    }
+
+-- what is told of frames is told by hear alone, and of ticks by tick
+frame-report : (id : BusId) (dlc : ℕ) (payload output : List ℕ) (n : Node)
+    → let o = outcome rolled (hear id dlc payload output) n in ofFrame (o .report .frame) ≡ o .report
+frame-report id dlc payload output n =
+    by-case (λ (o : Outcome). ofFrame (o .report .frame) ≡ o .report) (λ r why. refl) (λ h. refl) (hear-cases id dlc payload output n .case)
+
+tick-report : (output : List ℕ) (n : Node)
+    → let o = outcome rolled (tick output) n in ofTick (o .report .dropped) (o .report .delivered) ≡ o .report
+tick-report output n =
+    by-case (λ (o : Outcome). ofTick (o .report .dropped) (o .report .delivered) ≡ o .report) (λ r why. refl) (λ h. refl)
+    (tick-cases output rolled n .case)
 
 pub dead-at-tick : (m : Station) → m .live ≡ false → untouched m ≡ tickTurn m
 dead-at-tick m e = rw e
 
-module _ (live : Bool) (before after : List ℕ) (whole : length before ≡ nodeSize) (w : Written) (out : List ℕ) where
-  pub live-at-tick : live ≡ true → w ≡ asWritten (lentOutcome (tick lent) before) → out ≡ over (lentOutcome (tick lent) before .bytes) lent
-      → Leaves (tick lent) before after → answering live after w out ≡ tickTurn (stationIn live before)
-  live-at-tick e w-is out-is leaves = rw (w-is, out-is, leaves .node, as-node (tick lent) before whole, e)
+module _ (live : Bool) (before after : List ℕ) (whole : length before ≡ nodeSize) (out : List ℕ) where
+  pub live-at-tick : (w : LentTicked) → live ≡ true → w ≡ asLentTicked (lentOutcome (tick lent) before)
+      → out ≡ over (lentOutcome (tick lent) before .bytes) lent → Leaves (tick lent) before after
+      → ticking live after w out ≡ tickTurn (stationIn live before)
+  live-at-tick w e w-is out-is leaves = rw (w-is, out-is, leaves .node, as-node (tick lent) before whole, tick-report lent (decode before), e)
 
-  pub reached : (named own : Bool) (f : Frame) → (live && named && not own) ≡ true → (n : ℕ) (p : List ℕ) → n ≡ length p → p ≡ payloadOf f
-      → w ≡ asWritten (lentOutcome (hear (f .id) n p lent) before) → out ≡ over (lentOutcome (hear (f .id) n p lent) before .bytes) lent
-      → Leaves (hear (f .id) n p lent) before after → answering live after w out ≡ hearTurn named own f (stationIn live before)
-  reached named own f e n p n-is p-is w-is out-is leaves =
-      rw (w-is, out-is, leaves .node, as-node (hear (f .id) n p lent) before whole, n-is, p-is, e)
+  pub reached : (w : LentHeard) (named own : Bool) (f : Frame) → (live && named && not own) ≡ true → (n : ℕ) (p : List ℕ) → n ≡ length p → p ≡ payloadOf f
+      → w ≡ asLentHeard (lentOutcome (hear (f .id) n p lent) before) → out ≡ over (lentOutcome (hear (f .id) n p lent) before .bytes) lent
+      → Leaves (hear (f .id) n p lent) before after → hearing live after w out ≡ hearTurn named own f (stationIn live before)
+  reached w named own f e n p n-is p-is w-is out-is leaves =
+      rw (w-is, out-is, leaves .node, as-node (hear (f .id) n p lent) before whole, frame-report (f .id) n p lent (decode before), n-is, p-is, e)
 
 pub not-reached : (named own : Bool) (f : Frame) (m : Station) → (m .live && named && not own) ≡ false → untouched m ≡ hearTurn named own f m
 not-reached named own f m e = rw e

@@ -69,15 +69,14 @@ module _ {m : Module} {x : Station} (a : Mirrors m x) where
       go false = a
 
 -- what a module says are the records of what it logs
-says-records : (o : Outcome) (ds : List Delivery) → o .bytes ≡ recordsOf ds → saying o ≡ says (o .reply) ds
-says-records o ds e = ap (λ (bytes : List ℕ). record { heard = true; reply = o .reply; len = length bytes; bytes = over bytes lent }) e
+says-records : (o : Outcome) (ds : List Delivery) → o .bytes ≡ recordsOf ds → saying o ≡ says o ds
+says-records o ds e =
+    ap (λ (bytes : List ℕ). record { heard = true; reply = o .reply; len = length bytes; bytes = over bytes lent; report = o .report }) e
 
-tick-says : (n : Node) → saying (outcome unbounded (tick lent) n) ≡ says Done (deliveries unbounded n)
-tick-says n =
-    says-records (outcome unbounded (tick lent) n) (deliveries unbounded n) (tick-writes unbounded n)
-    ∙ ap (λ (o : Outcome). says (o .reply) (deliveries unbounded n)) (tick-cases lent unbounded n .accepted-if (record { room = omega arith }))
+tick-says : (n : Node) → saying (outcome unbounded (tick lent) n) ≡ says (outcome unbounded (tick lent) n) (deliveries unbounded n)
+tick-says n = says-records (outcome unbounded (tick lent) n) (deliveries unbounded n) (tick-writes unbounded n)
 
-heard-says : (g : Frame) (m : Module) → saying (heard g m) ≡ says (heard g m .reply) (atOnce g m)
+heard-says : (g : Frame) (m : Module) → saying (heard g m) ≡ says (heard g m) (atOnce g m)
 heard-says g m = says-records (heard g m) (atOnce g m) (heard-writes g m)
 
 -- ── whom a sending is to ──

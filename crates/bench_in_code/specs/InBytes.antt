@@ -5,6 +5,9 @@ use mathlib.Core.Bool.{Bool, false}
 use mathlib.Core.List.{List, [], _∷_, map}
 use lib.ListN.{length}
 use lib.Dec.{ltb}
+use Rattle.node.specs.declared.told.Told.the-variants.{Nothing}
+use Rattle.node_bytes.specs.declared.hear.LentHeard.{LentHeard}
+use Rattle.node_bytes.specs.declared.tick.LentTicked.{LentTicked}
 use Rattle.node_bytes.specs.Decoding.{decode}
 use Rattle.bench.specs.Events.{dead}
 use Rattle.bench_in_code.specs.declared.stations.Spoken.{Spoken}
@@ -38,7 +41,22 @@ Dies who before after =
 -- ── answers ──
 -- what a module said, but for its bytes, which are its output's
 abbrev pub spokenOf : Said → Spoken
-spokenOf s = record { heard = s .heard; reply = s .reply; len = s .len }
+spokenOf s =
+    record {
+      heard = s .heard;
+      reply = s .reply;
+      len = s .len;
+      told = s .report .frame;
+      dropped = s .report .dropped;
+      delivered = s .report .delivered;
+    }
+
+-- what it said whose node answered on its lent bytes
+abbrev pub spokenOfFrame : LentHeard → Spoken
+spokenOfFrame a = record { heard = true; reply = a .reply; len = a .written; told = a .told; dropped = 0; delivered = 0 }
+
+abbrev pub spokenOfTick : LentTicked → Spoken
+spokenOfTick a = record { heard = true; reply = a .reply; len = a .written; told = Nothing; dropped = a .dropped; delivered = a .delivered }
 
 abbrev pub spokenIn : List Said → List Spoken
 spokenIn said = map spokenOf said

@@ -10,6 +10,7 @@ use Rattle.wire.specs.declared.ids.Stream.{Stream}
 use Rattle.wire.specs.declared.reply.Reply.the-variants.{Done}
 use Rattle.wire.specs.Frames.{maxPayload}
 use Rattle.wire.specs.Delivered.{over}
+use Rattle.node.specs.Told.{silent}
 use Rattle.node.specs.Nodes.{Outcome, fresh, noId}
 use Rattle.node.specs.Clock.{rolled}
 use Rattle.node.specs.Calls.{Call, request, tick, nextFrame}
@@ -40,10 +41,10 @@ kept m = record { node = m .node; live = m .live }
 
 -- what a module says: an outcome, with what was written in an output of zeros; nothing, where an event did not reach it
 abbrev pub saying : Outcome → Said
-saying o = record { heard = true; reply = o .reply; len = length (o .bytes); bytes = over (o .bytes) lent }
+saying o = record { heard = true; reply = o .reply; len = length (o .bytes); bytes = over (o .bytes) lent; report = o .report }
 
 abbrev pub silence : Said
-silence = record { heard = false; reply = Done; len = 0; bytes = lent }
+silence = record { heard = false; reply = Done; len = 0; bytes = lent; report = silent }
 
 abbrev pub tickTurn : Station → Turn
 tickTurn m =

@@ -4,6 +4,7 @@ use mathlib.Core.Bool.{Bool}
 use mathlib.Core.List.{List}
 use Rattle.wire.specs.declared.reply.Reply.{Reply}
 use Rattle.node.specs.declared.Node.{Node}
+use Rattle.node.specs.Told.{Report}
 use Rattle.bench_in_code.specs.declared.outbox.Frame as kept-frame
 use Rattle.bench_in_code.specs.declared.outbox.Frames.{Frames}
 use Rattle.bench_in_code.specs.declared.Giving.{Giving}
@@ -13,12 +14,13 @@ pub record Station : Type 0 where
   pub node : Node
   pub live : Bool
 
--- what a module said: its reply, and what it wrote into an output of zeros. Where heard is false, the event did not reach it.
+-- what a module said: its reply, what it wrote into an output of zeros, and what it told. Where heard is false, the event did not reach it.
 pub record Said : Type 0 where
   pub heard : Bool
   pub reply : Reply
   pub len : ℕ
   pub bytes : List ℕ
+  pub report : Report
 
 -- a module after an event, and what it said
 pub record Turn : Type 0 where

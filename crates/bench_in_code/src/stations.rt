@@ -1,9 +1,11 @@
 // A module: its node, in lent bytes, and whether it is live. What it answers to an event.
 use crate::outbox::Frame;
 use node::Node;
-use node_bytes::Written;
+use node::told::Told;
+use node_bytes::hear::LentHeard;
 use node_bytes::layout::NODE_SIZE;
 use node_bytes::next_frame::next_frame;
+use node_bytes::tick::LentTicked;
 use wire::ids::BusId;
 use wire::reply::Reply;
 ghost use mathlib.Core.Path.{_≡_};
@@ -16,7 +18,7 @@ ghost use Rattle.node.specs.Clock.{rolled};
 ghost use Rattle.node.specs.Calls.{outcome};
 ghost use Rattle.node_bytes.specs.Decoding.{decode};
 ghost use Rattle.bench_in_code.specs.InCode.{tickTurn, hearTurn, next as nextCall};
-ghost use Rattle.bench_in_code.specs.InBytes.{stationIn, spokenOf};
+ghost use Rattle.bench_in_code.specs.InBytes.{stationIn, spokenOf, spokenOfFrame, spokenOfTick};
 
 pub type NodeBytes = [u8; NODE_SIZE];
 
@@ -28,12 +30,15 @@ pub type Output = [u8; Spoken::ROOM];
 
 pub const CLEAR: Output = [0; Spoken::ROOM];
 
-// What a module answered to an event: its reply, and how many bytes of its output it wrote. Where `heard` is false, the event did
-// not reach it.
+// What a module answered to an event: its reply, how many bytes of its output it wrote, what a frame did, and how many messages a tick
+// dropped and delivered. Where `heard` is false, the event did not reach it.
 pub struct Spoken {
     pub heard: bool,
     pub reply: Reply,
     pub len: usize,
+    pub told: Told,
+    pub dropped: u32,
+    pub delivered: u32,
 }
 
 impl Spoken {
@@ -44,16 +49,37 @@ impl Spoken {
         heard: false,
         reply: Reply::Done,
         len: 0,
+        told: Told::Nothing,
+        dropped: 0,
+        delivered: 0,
     };
 
-    fn of(answer: Written) -> Spoken
-        ensures { λ r. ⌜ r ≡ record { heard = true; reply = answer .reply; len = answer .written } ⌝ }
+    fn of_frame(answer: LentHeard) -> Spoken
+        ensures { λ r. ⌜ r ≡ spokenOfFrame answer ⌝ }
+    {
+        let reply = answer.reply;
+        let told = answer.told;
+        Spoken {
+            heard: true,
+            reply: reply,
+            len: answer.written,
+            told: told,
+            dropped: 0,
+            delivered: 0,
+        }
+    }
+
+    fn of_tick(answer: LentTicked) -> Spoken
+        ensures { λ r. ⌜ r ≡ spokenOfTick answer ⌝ }
     {
         let reply = answer.reply;
         Spoken {
             heard: true,
             reply: reply,
             len: answer.written,
+            told: Told::Nothing,
+            dropped: answer.dropped,
+            delivered: answer.delivered,
         }
     }
 }
@@ -77,7 +103,7 @@ pub(crate) fn hear(
     }
     let bytes = frame.all_bytes();
     let n = frame.payload_length();
-    Spoken::of(node_bytes::hear::hear(node, frame.id, n as u8, &bytes[0..n], out))
+    Spoken::of_frame(node_bytes::hear::hear(node, frame.id, n as u8, &bytes[0..n], out))
 }
 
 pub(crate) fn tick(live: bool, node: &mut NodeBytes, out: &mut Output) -> Spoken
@@ -89,7 +115,7 @@ pub(crate) fn tick(live: bool, node: &mut NodeBytes, out: &mut Output) -> Spoken
     if !live {
         return Spoken::NOTHING;
     }
-    Spoken::of(node_bytes::tick::tick(node, out))
+    Spoken::of_tick(node_bytes::tick::tick(node, out))
 }
 
 // A node after its next frame was given out, and that frame.
