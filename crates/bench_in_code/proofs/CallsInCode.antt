@@ -9,11 +9,13 @@ use lib.Seq.{take-append-seam}
 use borrow.Author.Tests.{le-leb, lt-leb}
 use Rattle.wire.specs.declared.reply.Reply.{Reply}
 use Rattle.wire.specs.declared.reply.Reply.the-variants.{Done}
+use Rattle.wire.specs.declared.ids.BusId.{BusId}
 use Rattle.wire.specs.Frames.{maxPayload}
 use Rattle.wire.specs.Delivered.{over}
 use Rattle.node.specs.declared.Answered.{Answered}
 use Rattle.node.specs.declared.Given.{Given}
-use Rattle.node.specs.Nodes.{fresh, asAnswered, asGiven}
+use Rattle.node.specs.declared.Node.{Node}
+use Rattle.node.specs.Nodes.{Outcome, fresh, asAnswered, asGiven}
 use Rattle.node.specs.Clock.{rolled}
 use Rattle.node.specs.Calls.{Call, outcome, tick, hear}
 use Rattle.node.specs.Told.{ofFrame, ofTick}

@@ -31,7 +31,7 @@ returns-2 c =
     let t =
     told-apart _ _ (reached (s .args .live) (s .args .node .now) _ (h .before .before .before .before .hear-arg .given .0 .1) _ _ (s .args .named) (s .args .own) (s .args .frame) (not-false _ (l .before .before .if1 .left)) _ _
     (length-is ∙ ap length (sym p)) p (u .0) (u .1 .0) (u .1 .1)) in
-    (c .of .ensures ∙ t .0, t .1)
+    (c .of-frame .ensures ∙ t .0, t .1)
 
 pub hear-spec : {M : Type 1} → statement M
 hear-spec =

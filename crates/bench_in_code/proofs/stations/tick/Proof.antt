@@ -18,7 +18,7 @@ returns-2 c =
     let t =
     told-apart _ _ (live-at-tick (s .args .live) (s .args .node .now) _ (a .tick-arg .given .0 .1) _ _ (not-false _ (a .before .if1 .left)) (u .0) (u .1 .0)
     (u .1 .1)) in
-    (c .of .ensures ∙ t .0, t .1)
+    (c .of-tick .ensures ∙ t .0, t .1)
 
 pub tick-spec : {M : Type 1} → statement M
 tick-spec = tie.close (tie.spec returns (λ c κs. search needs) (λ c κs. search needs) returns-2)
