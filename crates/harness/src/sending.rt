@@ -15,6 +15,7 @@ use bench_in_code::stations::Spoken;
 use text::Buffer;
 use text::output;
 use text::part;
+use text::told::put_told;
 use text::words;
 
 // The frame that a line names, and the index of the next word.
@@ -146,8 +147,8 @@ fn put_sent(out: &mut Buffer, to: usize, sent: Sending, outs: &Outputs) -> usize
     }
 }
 
-// `M:REPLY`, and `:STREAM:PAYLOAD` where hearing delivered; a space before it where another heard before. Nothing of one that
-// did not hear.
+// `M:REPLY` of a refusal, else `M:0:TOLD`, and `:STREAM:PAYLOAD` where hearing delivered; a space before it where another heard
+// before. Nothing of one that did not hear.
 fn put_hearing(
     out: &mut Buffer,
     to: usize,
@@ -162,7 +163,12 @@ fn put_hearing(
     let start = put_space(out, to, more);
     let mid = output::put_parted(out, start, module as u64, b':');
     let reply = said.reply;
-    let past = answers::put_reply(out, mid, reply);
+    if reply.number() != 0 {
+        return answers::put_reply(out, mid, reply);
+    }
+    let done = output::put_parted(out, mid, 0, b':');
+    let told = said.told;
+    let past = put_told(out, done, told.number());
     if said.len == 0 {
         return past;
     }

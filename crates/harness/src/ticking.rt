@@ -1,4 +1,4 @@
-// Common ticks, and what they delivered.
+// Common ticks, and what they dropped and delivered.
 use crate::answers;
 use crate::answers::Answer;
 use crate::answers::State;
@@ -57,7 +57,7 @@ fn later(ticks: u64, n: u64) -> u64 {
     std::num::wrapping_add_u64(ticks, n)
 }
 
-// So many ticks, with what each delivered.
+// So many ticks, with what each dropped and delivered.
 fn run(
     state: State,
     nodes: &mut Nodes,
@@ -104,6 +104,7 @@ fn put_told(
             tick,
             dated,
         };
+        past = records::put_dropped(out, past, place, s.dropped);
         past = records::put_all(out, past, place, part(&outs[i], 0, s.len));
         i += 1;
     }

@@ -8,3 +8,4 @@ pub mod Payloads
 pub mod Settings
 pub mod Output
 pub mod Unique
+pub mod Told
