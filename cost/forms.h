@@ -1,5 +1,5 @@
 /* The forms of the node that the workloads run over, under one set of names:
- *   LIBRARY_LENT       the library's, in lent bytes, with a lent tally;
+ *   LIBRARY_LENT       the library's or the C file's, in lent bytes, with a lent tally;
  *   LIBRARY_BY_VALUE   the library's, by value;
  *   BY_VALUE           the one in C, by value;
  *   otherwise          the one in C, by pointer.

@@ -1,7 +1,8 @@
 /* The C file against the kit's library in one process:
  *   compare CALLS SEED [VECTORS]
  * makes random calls on both, and compares every answer, every field of the node, every byte of the lent node, of the
- * tally, of the output's room and of the payload's. The first calls and the library's answers go to the file VECTORS, for a replay on another chip. */
+ * tally, of the output's room and of the payload's; at every thousandth call and the last also all other nodes. The first
+ * calls and the library's answers go to the file VECTORS, for a replay on another chip. */
 #include "call.h"
 
 #include <stdio.h>
@@ -10,7 +11,7 @@
 
 make_call library_call, portable_call;
 
-enum { REPLAYED = 200000 };
+enum { REPLAYED = 200000, ALL_NODES = 1000 };
 
 static struct bench library, portable;
 static const char *const titles[KINDS] = {"set_up", "hear", "tick", "request", "next_frame", "fresh", "count", "numbers", "wild", "due"};
@@ -32,13 +33,33 @@ static bool all_given(void)
     return true;
 }
 
-static bool same(const struct call *call, const struct answer *a, const struct answer *b)
+static bool same_left(unsigned number)
 {
     uint8_t x[LEFT], y[LEFT];
-    left(&library, call->node, x);
-    left(&portable, call->node, y);
-    return a->reply == b->reply && a->written == b->written && a->id == b->id && a->numbers == b->numbers &&
-           memcmp(x, y, LEFT) == 0 && memcmp(library.output, portable.output, sizeof library.output) == 0 &&
+    left(&library, number, x);
+    left(&portable, number, y);
+    return memcmp(x, y, LEFT) == 0;
+}
+
+/* Of a call on lent bytes, those and the tally: its node by value is looked at with all the others. */
+static bool same_node(const struct call *call)
+{
+    if (call->form != LENT) return same_left(call->node);
+    return memcmp(library.lent[call->node], portable.lent[call->node], NODE_ROOM) == 0 &&
+           memcmp(library.tally[call->node], portable.tally[call->node], sizeof library.tally[0]) == 0;
+}
+
+static bool same_nodes(void)
+{
+    for (unsigned number = 0; number < NODES; number++)
+        if (!same_left(number)) return false;
+    return true;
+}
+
+static bool same(const struct call *call, const struct answer *a, const struct answer *b)
+{
+    return a->reply == b->reply && a->written == b->written && a->id == b->id && a->numbers == b->numbers && same_node(call) &&
+           memcmp(library.output, portable.output, sizeof library.output) == 0 &&
            memcmp(library.payload, portable.payload, sizeof library.payload) == 0;
 }
 
@@ -53,7 +74,8 @@ int main(int argc, char **argv)
         fprintf(stderr, "usage: compare CALLS SEED [VECTORS]\n");
         return 2;
     }
-    for (unsigned long i = 0; i < count + FORMS * NODES && wrong < 5; i++) {
+    const unsigned long last = count + FORMS * NODES;
+    for (unsigned long i = 0; i < last && wrong < 5; i++) {
         random_call(&call, &state, &library);
         if (i < FORMS * NODES) {
             call.kind = FRESH;
@@ -62,13 +84,14 @@ int main(int argc, char **argv)
             call.node_length = KOSMYDORE_NODE_BYTES;
         }
         lend(&library, &call);
+        memcpy(portable.output, library.output, sizeof library.output);
+        memcpy(portable.payload, library.payload, sizeof library.payload);
         library_call(&library, &call, &a);
-        lend(&portable, &call);
         portable_call(&portable, &call, &b);
         made[call.form][call.kind]++;
         replies[call.form][call.kind][a.reply & 15]++;
         full_ticks[call.form] += call.kind == TICK && a.written >= 16 * 8;
-        if (!same(&call, &a, &b)) {
+        if (!same(&call, &a, &b) || ((i % ALL_NODES == 0 || i + 1 == last) && !same_nodes())) {
             wrong++;
             printf("call %lu, %s, %s: the library answers %lu %lu %lu, and the C file %lu %lu %lu\n", i, titles[call.kind],
                    forms[call.form], (unsigned long)a.reply, (unsigned long)a.written, (unsigned long)a.id, (unsigned long)b.reply,

@@ -6,6 +6,26 @@
 
 make_call MAKE_CALL;
 
+/* Of the address sanitizer, and not there without it: what is not lent may be neither read nor written. */
+void __asan_poison_memory_region(const volatile void *from, size_t count) __attribute__((weak));
+void __asan_unpoison_memory_region(const volatile void *from, size_t count) __attribute__((weak));
+
+static void not_lent(struct bench *bench, const struct call *c)
+{
+    if (!__asan_poison_memory_region) return;
+    uint32_t *tally = bench->tally[c->node];
+    __asan_poison_memory_region(bench->output + ROOM, GUARD);
+    __asan_poison_memory_region(bench->output, (size_t)(ROOM - c->output_length));
+    __asan_poison_memory_region(bench->payload, (size_t)(ROOM - c->payload_length));
+    __asan_poison_memory_region(tally + c->tally_length, (size_t)(TALLY_ROOM - c->tally_length) * sizeof *tally);
+    __asan_poison_memory_region(bench->lent[c->node] + c->node_length, (size_t)(NODE_ROOM - c->node_length));
+}
+
+static void all_again(struct bench *bench)
+{
+    if (__asan_unpoison_memory_region) __asan_unpoison_memory_region(bench, sizeof *bench);
+}
+
 static void mix(struct answer *answer, uint32_t number)
 {
     answer->numbers = (answer->numbers ^ number) * UINT32_C(2654435761); /* one to one in each of the two */
@@ -135,6 +155,10 @@ void MAKE_CALL(struct bench *bench, const struct call *c, struct answer *a)
     }
     case WILD:
     case DUE: wild(bench, c); break;
-    default: (c->form == LENT ? lent : by_value)(bench, c, a); break;
+    default:
+        not_lent(bench, c);
+        (c->form == LENT ? lent : by_value)(bench, c, a);
+        all_again(bench);
+        break;
     }
 }

@@ -42,7 +42,7 @@ fn greater(text: &str, from: usize, before: &str, after: &str) -> Vec<Change> {
 
 /// The changes of a C file, after its declarations.
 pub fn of_c(text: &str) -> Vec<Change> {
-    let from = text.find("\nstatic ").unwrap_or(0);
+    let from = text.find("\nKD_STATIC ").unwrap_or(0);
     let mut found = swaps(
         text,
         from,
@@ -100,7 +100,7 @@ fn chosen_line(line: &str, from: usize, changes: &[(usize, &Change)]) -> Option<
     } else {
         let end = words.strip_suffix(';').map(|_| line.len() - 1)?;
         let declares = ["uint", "bool", "struct"].iter().any(|word| words.starts_with(word));
-        if words.starts_with("return") || words == ";" {
+        if words.starts_with("return") || words.starts_with("static ") || words == ";" {
             return None;
         }
         match (declares, line.find(" = ")) {
