@@ -42,8 +42,8 @@ typedef struct {
 typedef struct {
     uint32_t reply;
 } Answered;
-typedef struct kosmydore_written Heard;
-typedef struct kosmydore_written Ticked;
+typedef struct kosmydore_module_heard Heard;
+typedef struct kosmydore_module_ticked Ticked;
 typedef struct kosmydore_given_out Given;
 
 static uint32_t tally[KOSMYDORE_TALLY_SIZE];
@@ -72,8 +72,8 @@ static inline Node fresh(void)
 
 typedef struct kosmydore_node Node;
 typedef struct kosmydore_answered Answered;
-typedef struct kosmydore_delivered Heard;
-typedef struct kosmydore_delivered Ticked;
+typedef struct kosmydore_heard Heard;
+typedef struct kosmydore_ticked Ticked;
 typedef struct kosmydore_given Given;
 #define COUNTER_OF(node) ((node).counter)
 #define fresh kosmydore_fresh

@@ -45,15 +45,15 @@ static void hear_or_tick(void)
 {
     uint8_t out[KOSMYDORE_TICK_OUTPUT];
     struct frame frame;
-    struct kosmydore_written said = {KOSMYDORE_DONE, 0};
+    size_t written = 0;
     if (controller_received(&frame)) {
         const size_t bytes = frame.dlc < KOSMYDORE_MAX_PAYLOAD ? frame.dlc : KOSMYDORE_MAX_PAYLOAD;
-        said = kosmydore_module_hear(node, sizeof node, frame.id, frame.dlc, frame.bytes, bytes, out, sizeof out,
-                                     tally, KOSMYDORE_TALLY_SIZE);
+        written = kosmydore_module_hear(node, sizeof node, frame.id, frame.dlc, frame.bytes, bytes, out, sizeof out,
+                                        tally, KOSMYDORE_TALLY_SIZE).written;
     } else if (timer_elapsed()) {
-        said = kosmydore_module_tick(node, sizeof node, out, sizeof out, tally, KOSMYDORE_TALLY_SIZE);
+        written = kosmydore_module_tick(node, sizeof node, out, sizeof out, tally, KOSMYDORE_TALLY_SIZE).written;
     }
-    deliver(out, said.written);
+    deliver(out, written);
 }
 
 /* The node's next frame goes to the controller once it has nothing of this module left to send. */
