@@ -2,7 +2,7 @@
  *   LIBRARY_LENT       the library's or the C file's, in lent bytes, with a lent tally;
  *   LIBRARY_BY_VALUE   the library's, by value;
  *   BY_VALUE           the one in C, by value;
- *   otherwise          the one in C, by pointer.
+ *   otherwise          the one in C, by pointer, or the one in Rust, by reference, on the same node.
  * LENT is the node as a call takes it, and BACK puts the node that the call gave back in its place. */
 #ifndef FORMS_H
 #define FORMS_H

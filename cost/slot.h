@@ -191,13 +191,18 @@ static inline struct happened tick_all(struct node *node, uint8_t *out)
     node->counter++;
     for (size_t i = 0; i < SLOTS; i++) {
         struct slot *slot = &node->slots[i];
-        enum fate fate = lapse(slot, node->counter);
 
-        h.dropped += fate == LATE;
-        if (fate == DUE) {
+        switch (lapse(slot, node->counter)) {
+        case KEPT:
+            break;
+        case LATE:
+            h.dropped++;
+            break;
+        case DUE:
             h.written += write_record(out + h.written, slot->stream, slot->message.bytes, slot->message.len);
             h.delivered++;
             memset(&slot->message, 0, sizeof slot->message);
+            break;
         }
     }
     return h;
