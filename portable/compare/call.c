@@ -3,6 +3,12 @@
 
 #include <string.h>
 
+bool same_answer(const struct answer *a, const struct answer *b)
+{
+    return a->left == b->left && a->output == b->output && a->reply == b->reply && a->written == b->written && a->id == b->id &&
+           a->numbers == b->numbers && a->told == b->told && a->dropped == b->dropped && a->delivered == b->delivered;
+}
+
 uint64_t random_step(uint64_t *state)
 {
     uint64_t z = (*state += UINT64_C(0x9E3779B97F4A7C15));

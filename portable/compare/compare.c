@@ -16,9 +16,9 @@ enum { REPLAYED = 200000, ALL_NODES = 1000 };
 static struct bench library, portable;
 static const char *const titles[KINDS] = {"set_up", "hear", "tick", "request", "next_frame", "fresh", "count", "numbers", "wild", "due"};
 static const char *const forms[FORMS] = {"by value", "lent"};
-static unsigned long made[FORMS][KINDS], replies[FORMS][KINDS][16], full_ticks[FORMS];
+static unsigned long made[FORMS][KINDS], replies[FORMS][KINDS][16], told[FORMS][16], full_ticks[FORMS], drops[FORMS];
 
-/* Whether every reply that a call can give was given, so that the calls show something. */
+/* Whether every reply that a call can give was given, and everything told that a frame can do, so that the calls show something. */
 static bool all_given(void)
 {
     static const char *const can[FORMS][NUMBERS] = {{"0123", "04567;", "0;", "089:", "0;<", "0", "01"}, /* from 10 on: : ; < */
@@ -30,7 +30,14 @@ static bool all_given(void)
                     printf("%s, %s, never answers %d\n", titles[kind], forms[form], *reply - '0');
                     return false;
                 }
-    return true;
+    for (int form = 0; form < FORMS; form++)
+        for (unsigned did = KOSMYDORE_TOLD_NOTHING; did <= KOSMYDORE_TOLD_DELIVERED; did++)
+            if (!told[form][did]) {
+                printf("hear, %s, never tells %u\n", forms[form], did);
+                return false;
+            }
+    if (!drops[BY_VALUE] || !drops[LENT]) printf("no tick drops a message\n");
+    return drops[BY_VALUE] && drops[LENT];
 }
 
 static bool same_left(unsigned number)
@@ -58,9 +65,14 @@ static bool same_nodes(void)
 
 static bool same(const struct call *call, const struct answer *a, const struct answer *b)
 {
-    return a->reply == b->reply && a->written == b->written && a->id == b->id && a->numbers == b->numbers && same_node(call) &&
-           memcmp(library.output, portable.output, sizeof library.output) == 0 &&
+    return same_answer(a, b) && same_node(call) && memcmp(library.output, portable.output, sizeof library.output) == 0 &&
            memcmp(library.payload, portable.payload, sizeof library.payload) == 0;
+}
+
+static void say(const char *whose, const struct answer *a)
+{
+    printf("%s %lu %lu %lu, told %lu, dropped %lu, delivered %lu", whose, (unsigned long)a->reply, (unsigned long)a->written,
+           (unsigned long)a->id, (unsigned long)a->told, (unsigned long)a->dropped, (unsigned long)a->delivered);
 }
 
 int main(int argc, char **argv)
@@ -90,12 +102,15 @@ int main(int argc, char **argv)
         portable_call(&portable, &call, &b);
         made[call.form][call.kind]++;
         replies[call.form][call.kind][a.reply & 15]++;
+        told[call.form][a.told & 15] += call.kind == HEAR;
         full_ticks[call.form] += call.kind == TICK && a.written >= 16 * 8;
+        drops[call.form] += a.dropped != 0;
         if (!same(&call, &a, &b) || ((i % ALL_NODES == 0 || i + 1 == last) && !same_nodes())) {
             wrong++;
-            printf("call %lu, %s, %s: the library answers %lu %lu %lu, and the C file %lu %lu %lu\n", i, titles[call.kind],
-                   forms[call.form], (unsigned long)a.reply, (unsigned long)a.written, (unsigned long)a.id, (unsigned long)b.reply,
-                   (unsigned long)b.written, (unsigned long)b.id);
+            printf("call %lu, %s, %s:", i, titles[call.kind], forms[call.form]);
+            say(" the library answers", &a);
+            say("; and the C file", &b);
+            printf("\n");
         }
         if (vectors && i < REPLAYED) {
             uint8_t x[LEFT];
@@ -114,7 +129,10 @@ int main(int argc, char **argv)
             for (int reply = 0; kind < NUMBERS && reply < 16; reply++)
                 if (replies[form][kind][reply]) printf(" %d:%lu", reply, replies[form][kind][reply]);
         }
-        printf("\n");
+        printf("; told");
+        for (int did = 0; did < 16; did++)
+            if (told[form][did]) printf(" %d:%lu", did, told[form][did]);
+        printf("; ticks that dropped %lu\n", drops[form]);
     }
     printf("%lu calls, %lu and %lu ticks of 16 records or more, %lu differ\n", count, full_ticks[BY_VALUE], full_ticks[LENT], wrong);
     return wrong != 0 || full_ticks[BY_VALUE] == 0 || full_ticks[LENT] == 0 || !all_given();
