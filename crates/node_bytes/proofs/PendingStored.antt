@@ -1,7 +1,7 @@
 -- Pending frames of a slot are stored, and nothing else of the node changes.
-use mathlib.Core.Path.{_≡_, refl, ap, _∙_}
+use mathlib.Core.Path.{_≡_, refl, sym, ap, _∙_}
 use mathlib.Core.Logic.{_⊎_, inl, inr}
-use mathlib.Core.Bool.{Bool, not}
+use mathlib.Core.Bool.{Bool, true, false, cond, not}
 use mathlib.Core.List.{List}
 use Prim.Native.Nat.{ℕ, _+_, _≤_, _<_}
 use native.Mathlib.Omega.{arith}
@@ -76,51 +76,80 @@ module _ (bytes after : List ℕ) (i : ℕ) (inside : i < slotCount) (p : Pendin
   pub flags-decoded : decode after ≡ withSlot i (withParts (slotAt bytes i) (slotAt bytes i .message) p) (decode bytes)
   flags-decoded = decode-changed bytes after i _ inside here outside
 
--- ── all three are stored ──
-module _ (bytes : List ℕ) (i : ℕ) (whole : length bytes ≡ nodeSize) (inside : i < slotCount) (p : Pending) where
+-- ── a flag is stored where it changes ──
+abbrev pub flagged : List ℕ → (at : ℕ) (old new : Bool) → List ℕ
+flagged bytes at old new = cond new (cond (not old) (set bytes at 1) bytes) (cond old (set bytes at 0) bytes)
+
+module _ (bytes : List ℕ) (at : ℕ) where
+  pub flagged-length : (old new : Bool) → length (flagged bytes at old new) ≡ length bytes
+  flagged-length true true = refl
+  flagged-length true false = length-set bytes at 0
+  flagged-length false true = length-set bytes at 1
+  flagged-length false false = refl
+
+  flagged-here : at < length bytes → (old new : Bool) → old ≡ flagAt bytes at → flagAt (flagged bytes at old new) at ≡ new
+  flagged-here inside true true e = sym e
+  flagged-here inside true false e = as-flag (getD-set-same bytes at 0 0 inside)
+  flagged-here inside false true e = as-flag (getD-set-same bytes at 1 0 inside)
+  flagged-here inside false false e = sym e
+
+  flagged-elsewhere : (j : ℕ) → (j ≡ at → ⊥) → (old new : Bool) → byteAt (flagged bytes at old new) j ≡ byteAt bytes j
+  flagged-elsewhere j other true true = refl
+  flagged-elsewhere j other true false = getD-set-other bytes at j 0 0 other
+  flagged-elsewhere j other false true = getD-set-other bytes at j 1 0 other
+  flagged-elsewhere j other false false = refl
+
+-- ── all three are ──
+module _ (bytes : List ℕ) (i : ℕ) (whole : length bytes ≡ nodeSize) (inside : i < slotCount) (old new : Pending) where
   abbrev from : ℕ
   from = slotStart i
 
   abbrev one : List ℕ
-  one = set bytes (payloadPendingAt + from) (flag (p .payload))
+  one = flagged bytes (payloadPendingAt + from) (old .payload) (new .payload)
 
   abbrev two : List ℕ
-  two = set one (confirmationPendingAt + from) (flag (p .confirmation))
+  two = flagged one (confirmationPendingAt + from) (old .confirmation) (new .confirmation)
 
   abbrev pub pended : List ℕ
-  pended = set two (abortPendingAt + from) (flag (p .abort))
+  pended = flagged two (abortPendingAt + from) (old .abort) (new .abort)
+
+  one-length : length one ≡ length bytes
+  one-length = flagged-length bytes (payloadPendingAt + from) (old .payload) (new .payload)
+
+  two-length : length two ≡ length bytes
+  two-length = flagged-length one (confirmationPendingAt + from) (old .confirmation) (new .confirmation) ∙ one-length
 
   pub pended-length : length pended ≡ length bytes
-  pended-length = simp length-set
+  pended-length = flagged-length two (abortPendingAt + from) (old .abort) (new .abort) ∙ two-length
+
+  past-payload : (j : ℕ) → (j ≡ payloadPendingAt + from → ⊥) → byteAt one j ≡ byteAt bytes j
+  past-payload j other = flagged-elsewhere bytes (payloadPendingAt + from) j other (old .payload) (new .payload)
+
+  past-confirmation : (j : ℕ) → (j ≡ confirmationPendingAt + from → ⊥) → byteAt two j ≡ byteAt one j
+  past-confirmation j other = flagged-elsewhere one (confirmationPendingAt + from) j other (old .confirmation) (new .confirmation)
+
+  past-abort : (j : ℕ) → (j ≡ abortPendingAt + from → ⊥) → byteAt pended j ≡ byteAt two j
+  past-abort j other = flagged-elsewhere two (abortPendingAt + from) j other (old .abort) (new .abort)
 
   same-but-three : (j : ℕ) → (j < payloadPendingAt + from) ⊎ (confirmedAt + from ≤ j) → byteAt pended j ≡ byteAt bytes j
-  same-but-three j (inl h) =
-      getD-set-other two (abortPendingAt + from) j _ 0 (λ e. omega arith)
-      ∙ getD-set-other one (confirmationPendingAt + from) j _ 0 (λ e. omega arith)
-      ∙ getD-set-other bytes (payloadPendingAt + from) j _ 0 (λ e. omega arith)
-  same-but-three j (inr h) =
-      getD-set-other two (abortPendingAt + from) j _ 0 (λ e. omega arith)
-      ∙ getD-set-other one (confirmationPendingAt + from) j _ 0 (λ e. omega arith)
-      ∙ getD-set-other bytes (payloadPendingAt + from) j _ 0 (λ e. omega arith)
+  same-but-three j (inl h) = past-abort j (λ e. omega arith) ∙ past-confirmation j (λ e. omega arith) ∙ past-payload j (λ e. omega arith)
+  same-but-three j (inr h) = past-abort j (λ e. omega arith) ∙ past-confirmation j (λ e. omega arith) ∙ past-payload j (λ e. omega arith)
 
-  payload-stored : byteAt pended (payloadPendingAt + from) ≡ flag (p .payload)
-  payload-stored =
-      getD-set-other two (abortPendingAt + from) (payloadPendingAt + from) _ 0 (λ e. omega arith)
-      ∙ getD-set-other one (confirmationPendingAt + from) (payloadPendingAt + from) _ 0 (λ e. omega arith)
-      ∙ getD-set-same bytes (payloadPendingAt + from) _ 0 (omega arith)
-
-  confirmation-stored : byteAt pended (confirmationPendingAt + from) ≡ flag (p .confirmation)
-  confirmation-stored =
-      getD-set-other two (abortPendingAt + from) (confirmationPendingAt + from) _ 0 (λ e. omega arith)
-      ∙ getD-set-same one (confirmationPendingAt + from) _ 0 (simp length-set (omega arith))
-
-  abort-stored : byteAt pended (abortPendingAt + from) ≡ flag (p .abort)
-  abort-stored = getD-set-same two (abortPendingAt + from) _ 0 (simp length-set (omega arith))
-
-  pub pended-decoded : decode pended ≡ withSlot i (withParts (slotAt bytes i) (slotAt bytes i .message) p) (decode bytes)
-  pended-decoded =
-      flags-decoded bytes pended i inside p same-but-three (as-flag payload-stored ∙ flag-back (p .payload))
-      (as-flag confirmation-stored ∙ flag-back (p .confirmation)) (as-flag abort-stored ∙ flag-back (p .abort))
+  pub pended-decoded : old ≡ slotAt bytes i .pending
+      → decode pended ≡ withSlot i (withParts (slotAt bytes i) (slotAt bytes i .message) new) (decode bytes)
+  unfolding slotFrom
+  pended-decoded e =
+      let p = payloadPendingAt + from in
+      let c = confirmationPendingAt + from in
+      let a = abortPendingAt + from in
+      let payload : old .payload ≡ flagAt bytes p = ap (λ (x : Pending). x .payload) e in
+      let confirmation : old .confirmation ≡ flagAt one c = ap (λ (x : Pending). x .confirmation) e ∙ sym (as-flag (past-payload c (λ e. omega arith))) in
+      let abort : old .abort ≡ flagAt two a =
+      ap (λ (x : Pending). x .abort) e ∙ sym (as-flag (past-confirmation a (λ e. omega arith) ∙ past-payload a (λ e. omega arith))) in
+      flags-decoded bytes pended i inside new same-but-three
+      (as-flag (past-abort p (λ e. omega arith) ∙ past-confirmation p (λ e. omega arith)) ∙ flagged-here bytes p (omega arith) (old .payload) (new .payload) payload)
+      (as-flag (past-abort c (λ e. omega arith)) ∙ flagged-here one c (omega (arith, one-length)) (old .confirmation) (new .confirmation) confirmation)
+      (flagged-here two a (omega (arith, two-length)) (old .abort) (new .abort) abort)
 
 -- ── the abort alone is stored ──
 module _ (bytes : List ℕ) (i : ℕ) (whole : length bytes ≡ nodeSize) (inside : i < slotCount) (abort : Bool) where

@@ -6,6 +6,7 @@ use crate::numbers::flag;
 use crate::numbers::flag_at;
 use crate::numbers::four_at;
 use crate::numbers::put_eight;
+use crate::numbers::put_flag;
 use crate::numbers::put_two;
 use crate::numbers::two_at;
 use crate::numbers::wide16;
@@ -254,17 +255,27 @@ fn pending_from(bytes: &[u8], at: usize) -> Pending
     }
 }
 
-// Sets which frames of slot i are pending, and nothing else of it.
-pub(crate) fn put_pending(bytes: &mut [u8], i: usize, pending: Pending)
-    requires { ⌜ (length (now bytes) ≡ nodeSize) × (i < slotCount) ⌝ }
+// Sets which frames of slot i are pending, of which `old` are so far, and nothing else of it. A flag that stays is not stored.
+pub(crate) fn put_pending(bytes: &mut [u8], i: usize, old: Pending, new: Pending)
+    requires { ⌜ (length (now bytes) ≡ nodeSize) × (i < slotCount) × (old ≡ slotAt (now bytes) i .pending) ⌝ }
     ensures { λ _. ⌜ (length (now (bytes .exit)) ≡ length (now (bytes .entry)))
         × (decode (now (bytes .exit))
-        ≡ withSlot i (withParts (slotAt (now (bytes .entry)) i) (slotAt (now (bytes .entry)) i .message) pending) (decode (now (bytes .entry)))) ⌝ }
+        ≡ withSlot i (withParts (slotAt (now (bytes .entry)) i) (slotAt (now (bytes .entry)) i .message) new) (decode (now (bytes .entry)))) ⌝ }
 {
     let at = layout::SLOT_SIZE * i;
-    bytes[layout::PAYLOAD_PENDING + at] = flag(pending.payload);
-    bytes[layout::CONFIRMATION_PENDING + at] = flag(pending.confirmation);
-    bytes[layout::ABORT_PENDING + at] = flag(pending.abort);
+    put_flag(
+        bytes,
+        layout::PAYLOAD_PENDING + at,
+        old.payload,
+        new.payload,
+    );
+    put_flag(
+        bytes,
+        layout::CONFIRMATION_PENDING + at,
+        old.confirmation,
+        new.confirmation,
+    );
+    put_flag(bytes, layout::ABORT_PENDING + at, old.abort, new.abort);
 }
 
 // Sets whether an abort of slot i is pending, and nothing else of it.

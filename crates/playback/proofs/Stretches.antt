@@ -82,8 +82,10 @@ module _ (clock : Clock) where
     -- where no slot changes, nothing is dropped and nothing delivered
     tells-none : (now : ℕ) (xs : List Slot) → All (StillAt clock now) xs → lapses clock now xs ≡ told.silent
     tells-none now xs still =
-        rw (none-of _ xs (all-weaken (StillAt clock now) _ (λ x s. s .not-late) xs still),
-        none-of _ xs (all-weaken (StillAt clock now) _ (λ x s. s .not-due) xs still))
+        rw (
+          none-of _ xs (all-weaken (StillAt clock now) _ (λ x s. s .not-late) xs still),
+          none-of _ xs (all-weaken (StillAt clock now) _ (λ x s. s .not-due) xs still),
+        )
 
     -- one tick
     quiet-tick : (k : ℕ) (n : Node) → All (Stays (n .counter) (suc k)) (n .slots)

@@ -3,6 +3,7 @@ use mathlib.Core.Path.{_≡_, sym, _∙_}
 use denote.Ref.{now}
 use Rattle.wire.specs.Uniqueness.{OneAnswer, OneContent}
 use Rattle.wire.proofs.class.carries.Reads as carries
+use Rattle.wire.proofs.delivered.copy_eight.Reads as copy-eight
 use Rattle.wire.proofs.delivered.record_at.Reads as record-at
 use Rattle.wire.proofs.delivered.record_length.Reads as record-length
 use Rattle.wire.proofs.delivered.write_record.Reads as write-record
@@ -34,6 +35,9 @@ write-record-unique l input a b s t p q = same (p .0) (q .0)
 
 pub write-record-content-unique : OneContent write-record.Post (λ l e. now (e .0))
 write-record-content-unique l input a b s t p q = same (p .1) (q .1)
+
+pub copy-eight-content-unique : OneContent copy-eight.Post (λ l e. now (e .0))
+copy-eight-content-unique l input a b s t p q = same p q
 
 pub record-at-unique : OneAnswer record-at.Post
 record-at-unique l input a b s t = same

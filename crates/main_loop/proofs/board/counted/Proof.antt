@@ -5,10 +5,10 @@ use Rattle.main_loop.proofs.board.counted.Statement.{statement}
 use Rattle.main_loop.proofs.board.counted.Tie as tie
 
 abbrev Inv-loop : tie.InvT-loop
-Inv-loop counts i₀ t4 t5 i = i ≤ 13
+Inv-loop counts i₀ t4 t5 i = i ≤ 17
 
 abbrev μ-loop : tie.MeasureT-loop
-μ-loop counts i₀ t4 t5 i = 13 - i
+μ-loop counts i₀ t4 t5 i = 17 - i
 
 pub counted-spec : {M : Type 1} → statement M
 counted-spec =
