@@ -24,8 +24,8 @@
 #define KOSMYDORE_H
 
 /* The version, as the file VERSION and `./kosmydore --version` have it. */
-#define KOSMYDORE_VERSION "5.0.0"
-#define KOSMYDORE_VERSION_MAJOR 5
+#define KOSMYDORE_VERSION "6.0.0"
+#define KOSMYDORE_VERSION_MAJOR 6
 #define KOSMYDORE_VERSION_MINOR 0
 #define KOSMYDORE_VERSION_PATCH 0
 

@@ -2,7 +2,7 @@
  * Kosmydore 5.0.0: the node in C99
  *
  * Made by `./kosmydore portable DIR` from the proved program of the crate `firmware`. Not to be edited.
- *   program  sha256 9e7106aabbe44a00a48823b68fdff733f99b3c7a428c880eb46ddc71f0b8332d
+ *   program  sha256 cdc0bfe6da616b3882221574003442cffdfd409213af8f136dccac074f0efd95
  *   kit      rattle-kit-5b logic 064da1ca440f63e7
  *
  * What this rests on. Proved is the program before its translation: every answer and every byte, for every input that
@@ -63,8 +63,8 @@ struct kd_wire_delivered_RecordLength {
     uint32_t f1;
 };
 
-struct kd_u32_13 {
-    uint32_t at[13];
+struct kd_u32_17 {
+    uint32_t at[17];
 };
 
 struct kd_bool_4 {
@@ -75,10 +75,19 @@ struct kd_bool_4_3 {
     struct kd_bool_4 at[3];
 };
 
-/* node_bytes::Written */
-struct kd_node_bytes_Written {
+/* node_bytes::hear::LentHeard */
+struct kd_node_bytes_hear_LentHeard {
     uint8_t f0;
     uint64_t f1;
+    uint8_t f2;
+};
+
+/* node_bytes::tick::LentTicked */
+struct kd_node_bytes_tick_LentTicked {
+    uint8_t f0;
+    uint64_t f1;
+    uint32_t f2;
+    uint32_t f3;
 };
 
 /* node_bytes::next_frame::GivenOut */
@@ -94,11 +103,21 @@ struct kd_node_Answered {
     uint8_t f1;
 };
 
-/* node::Delivered */
-struct kd_node_Delivered {
+/* node::Heard */
+struct kd_node_Heard {
     struct kosmydore_node f0;
     uint8_t f1;
     uint64_t f2;
+    uint8_t f3;
+};
+
+/* node::Ticked */
+struct kd_node_Ticked {
+    struct kosmydore_node f0;
+    uint8_t f1;
+    uint64_t f2;
+    uint32_t f3;
+    uint32_t f4;
 };
 
 /* node::Given */
@@ -242,9 +261,25 @@ KD_STATIC uint32_t kd_wire_reply_Reply_number(uint8_t v1)
         v2 = UINT32_C(11);
         break;
     }
-    default: /* no other number is reached */
     case 12: {
         v2 = UINT32_C(12);
+        break;
+    }
+    case 13: {
+        v2 = UINT32_C(18);
+        break;
+    }
+    case 14: {
+        v2 = UINT32_C(19);
+        break;
+    }
+    case 15: {
+        v2 = UINT32_C(20);
+        break;
+    }
+    default: /* no other number is reached */
+    case 16: {
+        v2 = UINT32_C(21);
         break;
     }
     }
@@ -578,17 +613,6 @@ KD_STATIC bool kd_wire_settings_Settings_legal(struct kosmydore_slot_settings v1
     return v0;
 }
 
-/* node_bytes::numbers::flag_at */
-KD_STATIC bool kd_node_bytes_numbers_flag_at(struct kd_slice v1, uint64_t v2)
-{
-    bool v0;
-
-    uint8_t *v3 = v1.at + (size_t)v2;
-    uint8_t v4 = *v3;
-    v0 = v4 != 0u;
-    return v0;
-}
-
 /* node_bytes::numbers::wide32 */
 KD_STATIC uint32_t kd_node_bytes_numbers_wide32(uint8_t v1)
 {
@@ -627,18 +651,32 @@ KD_STATIC uint32_t kd_node_bytes_numbers_four_at(struct kd_slice v1, uint64_t v2
     return v0;
 }
 
+/* node_bytes::numbers::flag_at */
+KD_STATIC bool kd_node_bytes_numbers_flag_at(struct kd_slice v1, uint64_t v2)
+{
+    bool v0;
+
+    uint8_t *v3 = v1.at + (size_t)v2;
+    uint8_t v4 = *v3;
+    v0 = v4 != 0u;
+    return v0;
+}
+
 /* node_bytes::slots::of_at */
 KD_STATIC bool kd_node_bytes_slots_of_at(struct kd_slice v1, uint64_t v2, uint32_t v3)
 {
     bool v0;
 
     uint64_t v4 = UINT64_C(32) * v2;
-    uint64_t v6 = UINT64_C(4) + v4;
-    bool v5 = kd_node_bytes_numbers_flag_at(v1, v6);
-    uint64_t v8 = UINT64_C(0) + v4;
-    uint32_t v7 = kd_node_bytes_numbers_four_at(v1, v8);
-    bool v9 = v7 == v3;
-    v0 = v5 & v9;
+    uint64_t v6 = UINT64_C(0) + v4;
+    uint32_t v5 = kd_node_bytes_numbers_four_at(v1, v6);
+    bool v7 = v5 != v3;
+    if (v7) {
+        v0 = false;
+        return v0;
+    }
+    v6 = UINT64_C(4) + v4;
+    v0 = kd_node_bytes_numbers_flag_at(v1, v6);
     return v0;
 }
 
@@ -1138,11 +1176,11 @@ KD_STATIC uint8_t kd_node_bytes_set_up_set_up(struct kd_slice v1, uint32_t v2, s
 KD_STATIC uint64_t kd_module_tally_Tally_place_of(uint32_t v1)
 {
     uint64_t v0;
-    static const struct kd_u32_13 v4 = {{UINT32_C(0), UINT32_C(1), UINT32_C(2), UINT32_C(3), UINT32_C(4), UINT32_C(5), UINT32_C(6), UINT32_C(7), UINT32_C(8), UINT32_C(9), UINT32_C(10), UINT32_C(11), UINT32_C(12)}};
+    static const struct kd_u32_17 v4 = {{UINT32_C(0), UINT32_C(1), UINT32_C(2), UINT32_C(3), UINT32_C(4), UINT32_C(5), UINT32_C(6), UINT32_C(7), UINT32_C(8), UINT32_C(9), UINT32_C(10), UINT32_C(11), UINT32_C(12), UINT32_C(18), UINT32_C(19), UINT32_C(20), UINT32_C(21)}};
 
     uint64_t v2 = UINT64_C(0);
     for (;;) {
-        bool v3 = v2 < UINT64_C(13);
+        bool v3 = v2 < UINT64_C(17);
         if (!v3) {
             break;
         }
@@ -1157,7 +1195,7 @@ KD_STATIC uint64_t kd_module_tally_Tally_place_of(uint32_t v1)
         }
         v2 = v2 + UINT64_C(1);
     }
-    v0 = UINT64_C(13);
+    v0 = UINT64_C(17);
     return v0;
 }
 
@@ -1167,13 +1205,13 @@ KD_STATIC bool kd_module_tally_count_in(struct kd_slice v1, uint32_t v2)
     bool v0;
 
     uint64_t v5 = (uint64_t)v1.length;
-    bool v6 = v5 != UINT64_C(13);
+    bool v6 = v5 != UINT64_C(17);
     if (v6) {
         v0 = false;
         return v0;
     }
     uint64_t v3 = kd_module_tally_Tally_place_of(v2);
-    v6 = UINT64_C(13) <= v3;
+    v6 = UINT64_C(17) <= v3;
     if (v6) {
         v0 = false;
         return v0;
@@ -1237,6 +1275,18 @@ KD_STATIC uint8_t kd_firmware_judged_dlc_of(uint32_t v1)
     return v0;
 }
 
+/* wire::ids::BusId::is_bare */
+KD_STATIC bool kd_wire_ids_BusId_is_bare(uint32_t v1)
+{
+    bool v0;
+
+    uint32_t v2 = v1 % UINT32_C(4);
+    bool v3 = v2 == UINT32_C(1);
+    bool v4 = v2 == UINT32_C(2);
+    v0 = v3 | v4;
+    return v0;
+}
+
 /* wire::frame::at_most_payload */
 KD_STATIC uint64_t kd_wire_frame_at_most_payload(uint64_t v1)
 {
@@ -1253,27 +1303,36 @@ KD_STATIC uint64_t kd_wire_frame_at_most_payload(uint64_t v1)
     return v0;
 }
 
-/* wire::frame::bad_frame */
-KD_STATIC bool kd_wire_frame_bad_frame(uint32_t v1, uint8_t v2, struct kd_slice v3)
+/* wire::frame::frame_reply */
+KD_STATIC uint8_t kd_wire_frame_frame_reply(bool v1, uint32_t v2, uint8_t v3, struct kd_slice v4)
 {
-    bool v0;
+    uint8_t v0;
 
-    uint32_t v4 = v1;
-    uint32_t v5 = v4 % UINT32_C(4);
-    bool v6 = UINT32_C(536870911) < v4;
-    bool v7 = 15u < v2;
-    bool v8 = v6 | v7;
-    uint64_t v9 = (uint64_t)v3.length;
-    uint64_t v11 = (uint64_t)v2;
-    uint64_t v10 = kd_wire_frame_at_most_payload(v11);
-    bool v12 = v9 != v10;
-    bool v13 = v8 | v12;
-    bool v14 = v5 == UINT32_C(1);
-    bool v15 = v5 == UINT32_C(2);
-    bool v16 = v14 | v15;
-    bool v17 = v2 != 0u;
-    bool v18 = v16 & v17;
-    v0 = v13 | v18;
+    bool v5 = UINT32_C(536870911) < v2;
+    if (v5) {
+        v0 = 13u;
+        return v0;
+    }
+    v5 = 15u < v3;
+    if (v5) {
+        v0 = 14u;
+        return v0;
+    }
+    uint64_t v6 = (uint64_t)v4.length;
+    uint64_t v8 = (uint64_t)v3;
+    uint64_t v7 = kd_wire_frame_at_most_payload(v8);
+    v5 = v6 != v7;
+    if (v5) {
+        v0 = 15u;
+        return v0;
+    }
+    v5 = v3 != 0u;
+    bool v9 = v1 & v5;
+    if (v9) {
+        v0 = 16u;
+        return v0;
+    }
+    v0 = 0u;
     return v0;
 }
 
@@ -1503,6 +1562,63 @@ KD_STATIC uint8_t kd_node_slots_Slot_hear_reply(struct kosmydore_slot v1, uint32
         return v0;
     }
     v0 = 0u;
+    return v0;
+}
+
+/* node::slots::Slot::told */
+KD_STATIC uint8_t kd_node_slots_Slot_told(struct kosmydore_slot v1, uint32_t v2)
+{
+    uint8_t v0;
+    uint8_t v4;
+    uint8_t v6;
+    uint8_t v8;
+    uint8_t v10;
+    uint8_t v12;
+
+    struct kosmydore_message v3 = v1.message;
+    switch (v2) {
+    case 0: {
+        bool v5 = v3.held;
+        if (v5) {
+            v6 = 2u;
+        } else {
+            v6 = 1u;
+        }
+        v4 = v6;
+        break;
+    }
+    case 1: {
+        bool v7 = v3.held;
+        if (v7) {
+            bool v9 = v3.confirmed;
+            if (v9) {
+                v10 = 4u;
+            } else {
+                v10 = 3u;
+            }
+            v8 = v10;
+        } else {
+            v8 = 5u;
+        }
+        v4 = v8;
+        break;
+    }
+    case 2: {
+        bool v11 = v3.held;
+        if (v11) {
+            v12 = 6u;
+        } else {
+            v12 = 7u;
+        }
+        v4 = v12;
+        break;
+    }
+    default: {
+        v4 = 8u;
+        break;
+    }
+    }
+    v0 = v4;
     return v0;
 }
 
@@ -1748,86 +1864,149 @@ KD_STATIC uint64_t kd_node_hear_deliver_plain(struct kd_slice v1, uint32_t v2, u
 }
 
 /* node_bytes::hear::hear */
-KD_STATIC struct kd_node_bytes_Written kd_node_bytes_hear_hear(struct kd_slice v1, uint32_t v2, uint8_t v3,
+KD_STATIC struct kd_node_bytes_hear_LentHeard kd_node_bytes_hear_hear(struct kd_slice v1, uint32_t v2, uint8_t v3,
     struct kd_slice v4, struct kd_slice v5)
 {
-    struct kd_node_bytes_Written v0;
+    struct kd_node_bytes_hear_LentHeard v0;
 
-    uint64_t v14 = (uint64_t)v1.length;
-    bool v15 = v14 != UINT64_C(1026);
-    if (v15) {
-        uint8_t v16 = 10u;
-        v0.f0 = v16;
+    uint64_t v16 = (uint64_t)v1.length;
+    bool v17 = v16 != UINT64_C(1026);
+    if (v17) {
+        uint8_t v18 = 10u;
+        uint8_t v19 = 0u;
+        v0.f0 = v18;
         v0.f1 = UINT64_C(0);
+        v0.f2 = v19;
         return v0;
     }
-    v14 = (uint64_t)v5.length;
-    v15 = v14 < UINT64_C(16);
-    if (v15) {
-        uint8_t v17 = 11u;
-        v0.f0 = v17;
+    v16 = (uint64_t)v5.length;
+    v17 = v16 < UINT64_C(16);
+    if (v17) {
+        uint8_t v20 = 11u;
+        uint8_t v21 = 0u;
+        v0.f0 = v20;
         v0.f1 = UINT64_C(0);
+        v0.f2 = v21;
         return v0;
     }
-    bool v18 = kd_wire_frame_bad_frame(v2, v3, v4);
-    if (v18) {
-        uint8_t v19 = 4u;
-        v0.f0 = v19;
+    v17 = kd_wire_ids_BusId_is_bare(v2);
+    uint8_t v6 = kd_wire_frame_frame_reply(v17, v2, v3, v4);
+    uint32_t v22 = kd_wire_reply_Reply_number(v6);
+    v17 = v22 != UINT32_C(0);
+    if (v17) {
+        uint8_t v23 = 0u;
+        v0.f0 = v6;
         v0.f1 = UINT64_C(0);
+        v0.f2 = v23;
         return v0;
     }
-    struct kd_wire_ids_Parts v6 = kd_wire_ids_BusId_split(v2);
-    uint32_t v7 = v6.f1;
-    uint32_t v8 = v6.f2;
-    uint8_t *v20 = v1.at;
-    struct kd_slice v21;
-    v21.at = v20;
-    v21.length = (size_t)(uint64_t)v1.length;
-    uint64_t v9 = kd_node_bytes_finding_find(v21, v7);
-    v15 = UINT64_C(32) <= v9;
-    if (v15) {
-        uint8_t v22 = 5u;
-        v0.f0 = v22;
+    struct kd_wire_ids_Parts v7 = kd_wire_ids_BusId_split(v2);
+    uint32_t v8 = v7.f1;
+    uint32_t v9 = v7.f2;
+    uint8_t *v24 = v1.at;
+    struct kd_slice v25;
+    v25.at = v24;
+    v25.length = (size_t)(uint64_t)v1.length;
+    uint64_t v10 = kd_node_bytes_finding_find(v25, v8);
+    v17 = UINT64_C(32) <= v10;
+    if (v17) {
+        uint8_t v26 = 5u;
+        uint8_t v27 = 0u;
+        v0.f0 = v26;
         v0.f1 = UINT64_C(0);
+        v0.f2 = v27;
         return v0;
     }
-    uint8_t *v23 = v1.at;
-    struct kd_slice v24;
-    v24.at = v23;
-    v24.length = (size_t)(uint64_t)v1.length;
-    struct kosmydore_slot v10 = kd_node_bytes_slots_slot_at(v24, v9);
-    uint8_t v11 = kd_node_slots_Slot_hear_reply(v10, v8, v4);
-    uint32_t v25 = kd_wire_reply_Reply_number(v11);
-    v15 = v25 != UINT32_C(0);
-    if (v15) {
-        v0.f0 = v11;
+    uint8_t *v28 = v1.at;
+    struct kd_slice v29;
+    v29.at = v28;
+    v29.length = (size_t)(uint64_t)v1.length;
+    struct kosmydore_slot v11 = kd_node_bytes_slots_slot_at(v29, v10);
+    uint8_t v12 = kd_node_slots_Slot_hear_reply(v11, v9, v4);
+    v22 = kd_wire_reply_Reply_number(v12);
+    v17 = v22 != UINT32_C(0);
+    if (v17) {
+        uint8_t v30 = 0u;
+        v0.f0 = v12;
         v0.f1 = UINT64_C(0);
+        v0.f2 = v30;
         return v0;
     }
-    uint8_t *v27 = v1.at;
-    struct kd_slice v28;
-    v28.at = v27;
-    v28.length = (size_t)(uint64_t)v1.length;
-    uint16_t v26 = kd_node_bytes_counter_counter_of(v28);
-    struct kosmydore_slot v12 = kd_node_slots_Slot_hear(v10, v26, v8, v4);
-    uint8_t *v30 = v1.at;
-    struct kd_slice v31;
-    v31.at = v30;
-    v31.length = (size_t)(uint64_t)v1.length;
-    kd_node_bytes_slots_put_slot(v31, v9, v12);
-    uint8_t *v32 = v5.at;
+    uint8_t v13 = kd_node_slots_Slot_told(v11, v9);
+    uint8_t *v32 = v1.at;
     struct kd_slice v33;
     v33.at = v32;
-    v33.length = (size_t)(uint64_t)v5.length;
-    uint64_t v13 = kd_node_hear_deliver_plain(v33, v7, v8, v4);
-    uint8_t v34 = 0u;
-    v0.f0 = v34;
-    v0.f1 = v13;
+    v33.length = (size_t)(uint64_t)v1.length;
+    uint16_t v31 = kd_node_bytes_counter_counter_of(v33);
+    struct kosmydore_slot v14 = kd_node_slots_Slot_hear(v11, v31, v9, v4);
+    uint8_t *v35 = v1.at;
+    struct kd_slice v36;
+    v36.at = v35;
+    v36.length = (size_t)(uint64_t)v1.length;
+    kd_node_bytes_slots_put_slot(v36, v10, v14);
+    uint8_t *v37 = v5.at;
+    struct kd_slice v38;
+    v38.at = v37;
+    v38.length = (size_t)(uint64_t)v5.length;
+    uint64_t v15 = kd_node_hear_deliver_plain(v38, v8, v9, v4);
+    uint8_t v39 = 0u;
+    v0.f0 = v39;
+    v0.f1 = v15;
+    v0.f2 = v13;
+    return v0;
+}
+
+/* node::told::Told::number */
+KD_STATIC uint32_t kd_node_told_Told_number(uint8_t v1)
+{
+    uint32_t v0;
+    uint32_t v2;
+
+    switch (v1) {
+    case 0: {
+        v2 = UINT32_C(0);
+        break;
+    }
+    case 1: {
+        v2 = UINT32_C(1);
+        break;
+    }
+    case 2: {
+        v2 = UINT32_C(2);
+        break;
+    }
+    case 3: {
+        v2 = UINT32_C(3);
+        break;
+    }
+    case 4: {
+        v2 = UINT32_C(4);
+        break;
+    }
+    case 5: {
+        v2 = UINT32_C(5);
+        break;
+    }
+    case 6: {
+        v2 = UINT32_C(6);
+        break;
+    }
+    case 7: {
+        v2 = UINT32_C(7);
+        break;
+    }
+    default: /* no other number is reached */
+    case 8: {
+        v2 = UINT32_C(8);
+        break;
+    }
+    }
+    v0 = v2;
     return v0;
 }
 
 /* firmware::lent::kosmydore_module_hear */
-struct kosmydore_written kosmydore_module_hear(uint8_t *node, size_t node_length, uint32_t id, uint32_t dlc,
+struct kosmydore_module_heard kosmydore_module_hear(uint8_t *node, size_t node_length, uint32_t id, uint32_t dlc,
     const uint8_t *payload, size_t payload_length, uint8_t *output, size_t output_length, uint32_t *tally,
     size_t tally_length)
 {
@@ -1835,27 +2014,30 @@ struct kosmydore_written kosmydore_module_hear(uint8_t *node, size_t node_length
     struct kd_slice v4 = {(uint8_t *)payload, payload_length};
     struct kd_slice v5 = {output, output_length};
     struct kd_slice v6 = {(uint8_t *)tally, tally_length};
-    struct kosmydore_written v0;
+    struct kosmydore_module_heard v0;
 
     uint8_t v7 = kd_firmware_judged_dlc_of(dlc);
-    uint8_t *v11 = v1.at;
-    struct kd_slice v12;
-    v12.at = v11;
-    v12.length = (size_t)(uint64_t)v1.length;
-    uint32_t v13 = id;
-    uint8_t *v14 = v5.at;
-    struct kd_slice v15;
-    v15.at = v14;
-    v15.length = (size_t)(uint64_t)v5.length;
-    struct kd_node_bytes_Written v8 = kd_node_bytes_hear_hear(v12, v13, v7, v4, v15);
+    uint8_t *v12 = v1.at;
+    struct kd_slice v13;
+    v13.at = v12;
+    v13.length = (size_t)(uint64_t)v1.length;
+    uint32_t v14 = id;
+    uint8_t *v15 = v5.at;
+    struct kd_slice v16;
+    v16.at = v15;
+    v16.length = (size_t)(uint64_t)v5.length;
+    struct kd_node_bytes_hear_LentHeard v8 = kd_node_bytes_hear_hear(v13, v14, v7, v4, v16);
     uint8_t v9 = v8.f0;
     uint32_t v10 = kd_wire_reply_Reply_number(v9);
-    uint8_t *v17 = v6.at;
-    struct kd_slice v18;
-    v18.at = v17;
-    v18.length = (size_t)(uint64_t)v6.length;
-    (void)kd_module_tally_count_in(v18, v10);
+    uint8_t *v18 = v6.at;
+    struct kd_slice v19;
+    v19.at = v18;
+    v19.length = (size_t)(uint64_t)v6.length;
+    (void)kd_module_tally_count_in(v19, v10);
+    uint8_t v11 = v8.f2;
+    uint32_t v20 = kd_node_told_Told_number(v11);
     v0.reply = v10;
+    v0.told = v20;
     v0.written = (size_t)v8.f1;
     return v0;
 }
@@ -1964,38 +2146,44 @@ KD_STATIC uint16_t kd_node_tick_age(uint16_t v1, uint16_t v2)
     return v0;
 }
 
-/* node_bytes::slots::may_stir_at */
-KD_STATIC bool kd_node_bytes_slots_may_stir_at(struct kd_slice v1, uint64_t v2, uint16_t v3)
+/* node_bytes::slots::kind_at */
+KD_STATIC uint16_t kd_node_bytes_slots_kind_at(struct kd_slice v1, uint64_t v2)
+{
+    uint16_t v0;
+
+    uint64_t v3 = UINT64_C(32) * v2;
+    uint64_t v5 = UINT64_C(13) + v3;
+    uint8_t *v6 = v1.at + (size_t)v5;
+    uint8_t v7 = *v6;
+    uint16_t v4 = kd_node_bytes_numbers_wide16(v7);
+    uint64_t v9 = UINT64_C(14) + v3;
+    uint8_t *v10 = v1.at + (size_t)v9;
+    uint8_t v11 = *v10;
+    uint16_t v8 = kd_node_bytes_numbers_wide16(v11);
+    uint16_t v12 = (uint16_t)((uint32_t)256u * v8);
+    v0 = (uint16_t)((uint32_t)v4 + v12);
+    return v0;
+}
+
+/* node_bytes::slots::confirmed_at */
+KD_STATIC bool kd_node_bytes_slots_confirmed_at(struct kd_slice v1, uint64_t v2)
 {
     bool v0;
 
-    bool v6 = kd_node_bytes_slots_held_at(v1, v2);
-    bool v7 = !v6;
-    if (v7) {
-        v0 = false;
-        return v0;
-    }
-    uint64_t v4 = UINT64_C(32) * v2;
-    uint16_t v8 = kd_node_bytes_slots_stamp_at(v1, v2);
-    uint16_t v5 = kd_node_tick_age(v3, v8);
-    uint64_t v9 = UINT64_C(22) + v4;
-    v8 = kd_node_bytes_numbers_two_at(v1, v9);
-    v6 = v8 < v5;
-    if (v6) {
-        v0 = true;
-        return v0;
-    }
-    v9 = UINT64_C(14) + v4;
-    uint8_t *v10 = v1.at + (size_t)v9;
-    uint8_t v11 = *v10;
-    v7 = v11 == 2u;
-    if (v7) {
-        uint64_t v13 = UINT64_C(18) + v4;
-        uint16_t v12 = kd_node_bytes_numbers_two_at(v1, v13);
-        v0 = v12 < v5;
-        return v0;
-    }
-    v0 = false;
+    uint64_t v3 = UINT64_C(32) * v2;
+    uint64_t v4 = UINT64_C(11) + v3;
+    v0 = kd_node_bytes_numbers_flag_at(v1, v4);
+    return v0;
+}
+
+/* node_bytes::slots::deliver_delay_at */
+KD_STATIC uint16_t kd_node_bytes_slots_deliver_delay_at(struct kd_slice v1, uint64_t v2)
+{
+    uint16_t v0;
+
+    uint64_t v3 = UINT64_C(32) * v2;
+    uint64_t v4 = UINT64_C(22) + v3;
+    v0 = kd_node_bytes_numbers_two_at(v1, v4);
     return v0;
 }
 
@@ -2022,65 +2210,30 @@ KD_STATIC bool kd_node_slots_Slot_due(struct kosmydore_slot v1, uint16_t v2)
     return v0;
 }
 
-/* node::slots::Slot::delivered */
-KD_STATIC struct kosmydore_slot kd_node_slots_Slot_delivered(struct kosmydore_slot v1)
+/* node_bytes::tick::due_or_none */
+KD_STATIC uint32_t kd_node_bytes_tick_due_or_none(bool v1)
 {
-    struct kosmydore_slot v0;
+    uint32_t v0;
+    uint32_t v3;
 
-    struct kd_u8_8 v3;
-    for (size_t t1 = 0; t1 < 8; t1++) {
-        v3.at[t1] = 0u;
+    bool v2 = v1;
+    if (v2) {
+        v3 = UINT32_C(2);
+    } else {
+        v3 = UINT32_C(0);
     }
-    struct kosmydore_message v2;
-    v2.stamp = 0u;
-    v2.length = 0u;
-    v2.held = false;
-    v2.confirmed = false;
-    memcpy(v2.bytes, v3.at, sizeof(struct kd_u8_8));
-    v1.message = v2;
-    v0 = v1;
+    v0 = v3;
     return v0;
 }
 
-/* node_bytes::slots::put_message */
-KD_STATIC void kd_node_bytes_slots_put_message(struct kd_slice v1, uint64_t v2, struct kosmydore_message v3)
+/* node_bytes::slots::confirm_delay_at */
+KD_STATIC uint16_t kd_node_bytes_slots_confirm_delay_at(struct kd_slice v1, uint64_t v2)
 {
-    uint64_t v4 = UINT64_C(32) * v2;
-    uint8_t v6 = kd_node_bytes_numbers_flag(v3.held);
-    uint64_t v7 = UINT64_C(5) + v4;
-    uint8_t *v8 = v1.at + (size_t)v7;
-    *v8 = v6;
-    uint8_t *v10 = v1.at;
-    struct kd_slice v11;
-    v11.at = v10;
-    v11.length = (size_t)(uint64_t)v1.length;
-    v7 = UINT64_C(6) + v4;
-    kd_node_bytes_numbers_put_two(v11, v7, v3.stamp);
-    v6 = kd_node_bytes_numbers_flag(v3.confirmed);
-    v7 = UINT64_C(11) + v4;
-    uint8_t *v12 = v1.at + (size_t)v7;
-    *v12 = v6;
-    v7 = UINT64_C(12) + v4;
-    uint8_t *v13 = v1.at + (size_t)v7;
-    *v13 = v3.length;
-    struct kd_u8_8 v5;
-    memcpy(v5.at, v3.bytes, sizeof(struct kd_u8_8));
-    uint8_t *v14 = v1.at;
-    struct kd_slice v15;
-    v15.at = v14;
-    v15.length = (size_t)(uint64_t)v1.length;
-    v7 = UINT64_C(24) + v4;
-    kd_node_bytes_numbers_put_eight(v15, v7, v5);
-    return;
-}
+    uint16_t v0;
 
-/* node::slots::Message::payload_length */
-KD_STATIC uint64_t kd_node_slots_Message_payload_length(struct kosmydore_message v1)
-{
-    uint64_t v0;
-
-    uint64_t v2 = (uint64_t)v1.length;
-    v0 = kd_wire_frame_at_most_payload(v2);
+    uint64_t v3 = UINT64_C(32) * v2;
+    uint64_t v4 = UINT64_C(18) + v3;
+    v0 = kd_node_bytes_numbers_two_at(v1, v4);
     return v0;
 }
 
@@ -2129,22 +2282,46 @@ KD_STATIC struct kosmydore_slot kd_node_slots_Slot_dropped(struct kosmydore_slot
     return v0;
 }
 
-/* node_bytes::slots::put_pending */
-KD_STATIC void kd_node_bytes_slots_put_pending(struct kd_slice v1, uint64_t v2, struct kosmydore_pending v3)
+/* node_bytes::slots::put_message */
+KD_STATIC void kd_node_bytes_slots_put_message(struct kd_slice v1, uint64_t v2, struct kosmydore_message v3)
 {
     uint64_t v4 = UINT64_C(32) * v2;
-    uint8_t v5 = kd_node_bytes_numbers_flag(v3.payload);
-    uint64_t v6 = UINT64_C(8) + v4;
+    uint8_t v6 = kd_node_bytes_numbers_flag(v3.held);
+    uint64_t v7 = UINT64_C(5) + v4;
+    uint8_t *v8 = v1.at + (size_t)v7;
+    *v8 = v6;
+    uint8_t *v10 = v1.at;
+    struct kd_slice v11;
+    v11.at = v10;
+    v11.length = (size_t)(uint64_t)v1.length;
+    v7 = UINT64_C(6) + v4;
+    kd_node_bytes_numbers_put_two(v11, v7, v3.stamp);
+    v6 = kd_node_bytes_numbers_flag(v3.confirmed);
+    v7 = UINT64_C(11) + v4;
+    uint8_t *v12 = v1.at + (size_t)v7;
+    *v12 = v6;
+    v7 = UINT64_C(12) + v4;
+    uint8_t *v13 = v1.at + (size_t)v7;
+    *v13 = v3.length;
+    struct kd_u8_8 v5;
+    memcpy(v5.at, v3.bytes, sizeof(struct kd_u8_8));
+    uint8_t *v14 = v1.at;
+    struct kd_slice v15;
+    v15.at = v14;
+    v15.length = (size_t)(uint64_t)v1.length;
+    v7 = UINT64_C(24) + v4;
+    kd_node_bytes_numbers_put_eight(v15, v7, v5);
+    return;
+}
+
+/* node_bytes::slots::put_abort */
+KD_STATIC void kd_node_bytes_slots_put_abort(struct kd_slice v1, uint64_t v2, bool v3)
+{
+    uint8_t v4 = kd_node_bytes_numbers_flag(v3);
+    uint64_t v5 = UINT64_C(32) * v2;
+    uint64_t v6 = UINT64_C(10) + v5;
     uint8_t *v7 = v1.at + (size_t)v6;
-    *v7 = v5;
-    v5 = kd_node_bytes_numbers_flag(v3.confirmation);
-    v6 = UINT64_C(9) + v4;
-    uint8_t *v8 = v1.at + (size_t)v6;
-    *v8 = v5;
-    v5 = kd_node_bytes_numbers_flag(v3.abort);
-    v6 = UINT64_C(10) + v4;
-    uint8_t *v9 = v1.at + (size_t)v6;
-    *v9 = v5;
+    *v7 = v4;
     return;
 }
 
@@ -2193,128 +2370,283 @@ KD_STATIC struct kosmydore_slot kd_node_slots_Slot_hold_ended(struct kosmydore_s
     return v0;
 }
 
-/* node_bytes::tick::tick */
-KD_STATIC struct kd_node_bytes_Written kd_node_bytes_tick_tick(struct kd_slice v1, struct kd_slice v2)
+/* node_bytes::tick::lapse_at */
+KD_STATIC uint32_t kd_node_bytes_tick_lapse_at(struct kd_slice v1, uint64_t v2, uint16_t v3)
 {
-    struct kd_node_bytes_Written v0;
-    struct kd_u8_8 v11;
+    uint32_t v0;
 
-    uint64_t v15 = (uint64_t)v1.length;
-    bool v16 = v15 != UINT64_C(1026);
-    if (v16) {
-        uint8_t v17 = 10u;
-        v0.f0 = v17;
-        v0.f1 = UINT64_C(0);
+    uint8_t *v12 = v1.at;
+    struct kd_slice v13;
+    v13.at = v12;
+    v13.length = (size_t)(uint64_t)v1.length;
+    bool v11 = kd_node_bytes_slots_held_at(v13, v2);
+    bool v14 = !v11;
+    if (v14) {
+        v0 = UINT32_C(0);
         return v0;
     }
-    v15 = (uint64_t)v2.length;
-    v16 = v15 < UINT64_C(512);
-    if (v16) {
-        uint8_t v18 = 11u;
-        v0.f0 = v18;
-        v0.f1 = UINT64_C(0);
+    uint8_t *v16 = v1.at;
+    struct kd_slice v17;
+    v17.at = v16;
+    v17.length = (size_t)(uint64_t)v1.length;
+    uint16_t v15 = kd_node_bytes_slots_stamp_at(v17, v2);
+    uint16_t v4 = kd_node_tick_age(v3, v15);
+    uint8_t *v18 = v1.at;
+    struct kd_slice v19;
+    v19.at = v18;
+    v19.length = (size_t)(uint64_t)v1.length;
+    uint16_t v5 = kd_node_bytes_slots_kind_at(v19, v2);
+    v11 = v5 == 512u;
+    if (v11) {
+        uint8_t *v21 = v1.at;
+        struct kd_slice v22;
+        v22.at = v21;
+        v22.length = (size_t)(uint64_t)v1.length;
+        bool v20 = kd_node_bytes_slots_confirmed_at(v22, v2);
+        if (v20) {
+            uint8_t *v24 = v1.at;
+            struct kd_slice v25;
+            v25.at = v24;
+            v25.length = (size_t)(uint64_t)v1.length;
+            uint16_t v23 = kd_node_bytes_slots_deliver_delay_at(v25, v2);
+            bool v26 = v4 <= v23;
+            if (v26) {
+                v0 = UINT32_C(0);
+                return v0;
+            }
+            uint8_t *v27 = v1.at;
+            struct kd_slice v28;
+            v28.at = v27;
+            v28.length = (size_t)(uint64_t)v1.length;
+            struct kosmydore_slot v6 = kd_node_bytes_slots_slot_at(v28, v2);
+            v26 = kd_node_slots_Slot_due(v6, v4);
+            v0 = kd_node_bytes_tick_due_or_none(v26);
+            return v0;
+        }
+        uint8_t *v30 = v1.at;
+        struct kd_slice v31;
+        v31.at = v30;
+        v31.length = (size_t)(uint64_t)v1.length;
+        uint16_t v29 = kd_node_bytes_slots_confirm_delay_at(v31, v2);
+        bool v32 = v4 <= v29;
+        if (v32) {
+            v0 = UINT32_C(0);
+            return v0;
+        }
+        uint8_t *v33 = v1.at;
+        struct kd_slice v34;
+        v34.at = v33;
+        v34.length = (size_t)(uint64_t)v1.length;
+        struct kosmydore_slot v7 = kd_node_bytes_slots_slot_at(v34, v2);
+        v32 = kd_node_slots_Slot_late(v7, v4);
+        bool v35 = !v32;
+        if (v35) {
+            v0 = UINT32_C(0);
+            return v0;
+        }
+        struct kosmydore_slot v8 = kd_node_slots_Slot_dropped(v7);
+        uint8_t *v37 = v1.at;
+        struct kd_slice v38;
+        v38.at = v37;
+        v38.length = (size_t)(uint64_t)v1.length;
+        kd_node_bytes_slots_put_message(v38, v2, v8.message);
+        uint8_t *v39 = v1.at;
+        struct kd_slice v40;
+        v40.at = v39;
+        v40.length = (size_t)(uint64_t)v1.length;
+        kd_node_bytes_slots_put_abort(v40, v2, v8.pending.abort);
+        v0 = UINT32_C(1);
         return v0;
     }
-    uint8_t *v20 = v1.at;
-    struct kd_slice v21;
-    v21.at = v20;
-    v21.length = (size_t)(uint64_t)v1.length;
-    uint16_t v19 = kd_node_bytes_counter_counter_of(v21);
-    uint16_t v3 = kd_node_tick_next(v19);
-    uint8_t *v23 = v1.at;
-    struct kd_slice v24;
-    v24.at = v23;
-    v24.length = (size_t)(uint64_t)v1.length;
-    kd_node_bytes_counter_put_counter(v24, v3);
+    uint8_t *v41 = v1.at;
+    struct kd_slice v42;
+    v42.at = v41;
+    v42.length = (size_t)(uint64_t)v1.length;
+    v15 = kd_node_bytes_slots_deliver_delay_at(v42, v2);
+    v14 = v4 <= v15;
+    if (v14) {
+        v0 = UINT32_C(0);
+        return v0;
+    }
+    uint8_t *v43 = v1.at;
+    struct kd_slice v44;
+    v44.at = v43;
+    v44.length = (size_t)(uint64_t)v1.length;
+    struct kosmydore_slot v9 = kd_node_bytes_slots_slot_at(v44, v2);
+    v11 = v5 == 256u;
+    if (v11) {
+        bool v45 = kd_node_slots_Slot_due(v9, v4);
+        v0 = kd_node_bytes_tick_due_or_none(v45);
+        return v0;
+    }
+    v14 = kd_node_slots_Slot_hold_over(v9, v4);
+    v11 = !v14;
+    if (v11) {
+        v0 = UINT32_C(0);
+        return v0;
+    }
+    struct kosmydore_slot v10 = kd_node_slots_Slot_hold_ended(v9);
+    uint8_t *v47 = v1.at;
+    struct kd_slice v48;
+    v48.at = v47;
+    v48.length = (size_t)(uint64_t)v1.length;
+    kd_node_bytes_slots_put_message(v48, v2, v10.message);
+    v0 = UINT32_C(0);
+    return v0;
+}
+
+/* node::slots::Slot::delivered */
+KD_STATIC struct kosmydore_slot kd_node_slots_Slot_delivered(struct kosmydore_slot v1)
+{
+    struct kosmydore_slot v0;
+
+    struct kd_u8_8 v3;
+    for (size_t t1 = 0; t1 < 8; t1++) {
+        v3.at[t1] = 0u;
+    }
+    struct kosmydore_message v2;
+    v2.stamp = 0u;
+    v2.length = 0u;
+    v2.held = false;
+    v2.confirmed = false;
+    memcpy(v2.bytes, v3.at, sizeof(struct kd_u8_8));
+    v1.message = v2;
+    v0 = v1;
+    return v0;
+}
+
+/* node::slots::Message::payload_length */
+KD_STATIC uint64_t kd_node_slots_Message_payload_length(struct kosmydore_message v1)
+{
+    uint64_t v0;
+
+    uint64_t v2 = (uint64_t)v1.length;
+    v0 = kd_wire_frame_at_most_payload(v2);
+    return v0;
+}
+
+/* node_bytes::tick::deliver_at */
+KD_STATIC uint64_t kd_node_bytes_tick_deliver_at(struct kd_slice v1, uint64_t v2, struct kd_slice v3)
+{
+    uint64_t v0;
+    struct kd_u8_8 v7;
+
+    uint8_t *v9 = v1.at;
+    struct kd_slice v10;
+    v10.at = v9;
+    v10.length = (size_t)(uint64_t)v1.length;
+    struct kosmydore_slot v4 = kd_node_bytes_slots_slot_at(v10, v2);
+    struct kosmydore_slot v5 = kd_node_slots_Slot_delivered(v4);
+    uint8_t *v12 = v1.at;
+    struct kd_slice v13;
+    v13.at = v12;
+    v13.length = (size_t)(uint64_t)v1.length;
+    kd_node_bytes_slots_put_message(v13, v2, v5.message);
+    struct kosmydore_message v6 = v4.message;
+    memcpy(v7.at, v6.bytes, sizeof(struct kd_u8_8));
+    uint64_t v8 = kd_node_slots_Message_payload_length(v6);
+    uint8_t *v14 = v3.at;
+    struct kd_slice v15;
+    v15.at = v14;
+    v15.length = (size_t)(uint64_t)v3.length;
+    uint8_t *v16 = (uint8_t *)&v7;
+    uint8_t *v17 = v16 + (size_t)UINT64_C(0);
+    uint64_t v18 = v8 - UINT64_C(0);
+    uint8_t *v19 = v17;
+    struct kd_slice v20;
+    v20.at = v19;
+    v20.length = (size_t)v18;
+    v0 = kd_wire_delivered_write_record(v15, v4.stream, v20);
+    return v0;
+}
+
+/* node_bytes::tick::tick */
+KD_STATIC struct kd_node_bytes_tick_LentTicked kd_node_bytes_tick_tick(struct kd_slice v1, struct kd_slice v2)
+{
+    struct kd_node_bytes_tick_LentTicked v0;
+
+    uint64_t v10 = (uint64_t)v1.length;
+    bool v11 = v10 != UINT64_C(1026);
+    if (v11) {
+        uint8_t v12 = 10u;
+        v0.f0 = v12;
+        v0.f1 = UINT64_C(0);
+        v0.f2 = UINT32_C(0);
+        v0.f3 = UINT32_C(0);
+        return v0;
+    }
+    v10 = (uint64_t)v2.length;
+    v11 = v10 < UINT64_C(512);
+    if (v11) {
+        uint8_t v13 = 11u;
+        v0.f0 = v13;
+        v0.f1 = UINT64_C(0);
+        v0.f2 = UINT32_C(0);
+        v0.f3 = UINT32_C(0);
+        return v0;
+    }
+    uint8_t *v15 = v1.at;
+    struct kd_slice v16;
+    v16.at = v15;
+    v16.length = (size_t)(uint64_t)v1.length;
+    uint16_t v14 = kd_node_bytes_counter_counter_of(v16);
+    uint16_t v3 = kd_node_tick_next(v14);
+    uint8_t *v18 = v1.at;
+    struct kd_slice v19;
+    v19.at = v18;
+    v19.length = (size_t)(uint64_t)v1.length;
+    kd_node_bytes_counter_put_counter(v19, v3);
     uint64_t v4 = UINT64_C(0);
-    uint64_t v5 = UINT64_C(0);
+    uint32_t v5 = UINT32_C(0);
+    uint32_t v6 = UINT32_C(0);
+    uint64_t v7 = UINT64_C(0);
     for (;;) {
-        bool v25 = v5 < UINT64_C(32);
-        if (!v25) {
+        bool v20 = v7 < UINT64_C(32);
+        if (!v20) {
             break;
         }
-        uint64_t v6 = v5;
-        v5 = v5 + UINT64_C(1);
-        uint8_t *v27 = v1.at;
-        struct kd_slice v28;
-        v28.at = v27;
-        v28.length = (size_t)(uint64_t)v1.length;
-        bool v26 = kd_node_bytes_slots_may_stir_at(v28, v6, v3);
-        if (v26) {
-            uint8_t *v29 = v1.at;
-            struct kd_slice v30;
-            v30.at = v29;
-            v30.length = (size_t)(uint64_t)v1.length;
-            struct kosmydore_slot v7 = kd_node_bytes_slots_slot_at(v30, v6);
-            uint16_t v8 = kd_node_tick_age(v3, v7.message.stamp);
-            bool v31 = kd_node_slots_Slot_due(v7, v8);
-            if (v31) {
-                struct kosmydore_slot v9 = kd_node_slots_Slot_delivered(v7);
-                uint8_t *v33 = v1.at;
-                struct kd_slice v34;
-                v34.at = v33;
-                v34.length = (size_t)(uint64_t)v1.length;
-                kd_node_bytes_slots_put_message(v34, v6, v9.message);
-                struct kosmydore_message v10 = v7.message;
-                memcpy(v11.at, v10.bytes, sizeof(struct kd_u8_8));
-                uint64_t v12 = kd_node_slots_Message_payload_length(v10);
-                uint8_t *v36 = v2.at + (size_t)v4;
-                uint64_t v37 = (uint64_t)v2.length - v4;
-                uint8_t *v38 = v36;
-                struct kd_slice v39;
-                v39.at = v38;
-                v39.length = (size_t)v37;
-                uint8_t *v40 = (uint8_t *)&v11;
-                uint8_t *v41 = v40 + (size_t)UINT64_C(0);
-                uint64_t v42 = v12 - UINT64_C(0);
-                uint8_t *v43 = v41;
-                struct kd_slice v44;
-                v44.at = v43;
-                v44.length = (size_t)v42;
-                uint64_t v35 = kd_wire_delivered_write_record(v39, v7.stream, v44);
-                v4 = v4 + v35;
-            } else {
-                bool v45 = kd_node_slots_Slot_late(v7, v8);
-                if (v45) {
-                    struct kosmydore_slot v13 = kd_node_slots_Slot_dropped(v7);
-                    uint8_t *v47 = v1.at;
-                    struct kd_slice v48;
-                    v48.at = v47;
-                    v48.length = (size_t)(uint64_t)v1.length;
-                    kd_node_bytes_slots_put_message(v48, v6, v13.message);
-                    uint8_t *v49 = v1.at;
-                    struct kd_slice v50;
-                    v50.at = v49;
-                    v50.length = (size_t)(uint64_t)v1.length;
-                    kd_node_bytes_slots_put_pending(v50, v6, v13.pending);
-                } else {
-                    bool v51 = kd_node_slots_Slot_hold_over(v7, v8);
-                    if (v51) {
-                        struct kosmydore_slot v14 = kd_node_slots_Slot_hold_ended(v7);
-                        uint8_t *v53 = v1.at;
-                        struct kd_slice v54;
-                        v54.at = v53;
-                        v54.length = (size_t)(uint64_t)v1.length;
-                        kd_node_bytes_slots_put_message(v54, v6, v14.message);
-                    }
-                }
-            }
+        uint64_t v8 = v7;
+        v7 = v7 + UINT64_C(1);
+        uint8_t *v21 = v1.at;
+        struct kd_slice v22;
+        v22.at = v21;
+        v22.length = (size_t)(uint64_t)v1.length;
+        uint32_t v9 = kd_node_bytes_tick_lapse_at(v22, v8, v3);
+        v20 = v9 == UINT32_C(2);
+        if (v20) {
+            uint8_t *v24 = v1.at;
+            struct kd_slice v25;
+            v25.at = v24;
+            v25.length = (size_t)(uint64_t)v1.length;
+            uint8_t *v26 = v2.at + (size_t)v4;
+            uint64_t v27 = (uint64_t)v2.length - v4;
+            uint8_t *v28 = v26;
+            struct kd_slice v29;
+            v29.at = v28;
+            v29.length = (size_t)v27;
+            uint64_t v23 = kd_node_bytes_tick_deliver_at(v25, v8, v29);
+            v4 = v4 + v23;
+            v6 = v6 + UINT32_C(1);
+        } else {
+            v5 = v5 + v9;
         }
     }
-    uint8_t v55 = 0u;
-    v0.f0 = v55;
+    uint8_t v30 = 0u;
+    v0.f0 = v30;
     v0.f1 = v4;
+    v0.f2 = v5;
+    v0.f3 = v6;
     return v0;
 }
 
 /* firmware::lent::kosmydore_module_tick */
-struct kosmydore_written kosmydore_module_tick(uint8_t *node, size_t node_length, uint8_t *output,
+struct kosmydore_module_ticked kosmydore_module_tick(uint8_t *node, size_t node_length, uint8_t *output,
     size_t output_length, uint32_t *tally, size_t tally_length)
 {
     struct kd_slice v1 = {node, node_length};
     struct kd_slice v2 = {output, output_length};
     struct kd_slice v3 = {(uint8_t *)tally, tally_length};
-    struct kosmydore_written v0;
+    struct kosmydore_module_ticked v0;
 
     uint8_t *v7 = v1.at;
     struct kd_slice v8;
@@ -2324,7 +2656,7 @@ struct kosmydore_written kosmydore_module_tick(uint8_t *node, size_t node_length
     struct kd_slice v10;
     v10.at = v9;
     v10.length = (size_t)(uint64_t)v2.length;
-    struct kd_node_bytes_Written v4 = kd_node_bytes_tick_tick(v8, v10);
+    struct kd_node_bytes_tick_LentTicked v4 = kd_node_bytes_tick_tick(v8, v10);
     uint8_t v5 = v4.f0;
     uint32_t v6 = kd_wire_reply_Reply_number(v5);
     uint8_t *v12 = v3.at;
@@ -2333,6 +2665,8 @@ struct kosmydore_written kosmydore_module_tick(uint8_t *node, size_t node_length
     v13.length = (size_t)(uint64_t)v3.length;
     (void)kd_module_tally_count_in(v13, v6);
     v0.reply = v6;
+    v0.dropped = v4.f2;
+    v0.delivered = v4.f3;
     v0.written = (size_t)v4.f1;
     return v0;
 }
@@ -2691,6 +3025,25 @@ KD_STATIC struct kosmydore_slot kd_node_slots_Slot_given_out(struct kosmydore_sl
     return v0;
 }
 
+/* node_bytes::slots::put_pending */
+KD_STATIC void kd_node_bytes_slots_put_pending(struct kd_slice v1, uint64_t v2, struct kosmydore_pending v3)
+{
+    uint64_t v4 = UINT64_C(32) * v2;
+    uint8_t v5 = kd_node_bytes_numbers_flag(v3.payload);
+    uint64_t v6 = UINT64_C(8) + v4;
+    uint8_t *v7 = v1.at + (size_t)v6;
+    *v7 = v5;
+    v5 = kd_node_bytes_numbers_flag(v3.confirmation);
+    v6 = UINT64_C(9) + v4;
+    uint8_t *v8 = v1.at + (size_t)v6;
+    *v8 = v5;
+    v5 = kd_node_bytes_numbers_flag(v3.abort);
+    v6 = UINT64_C(10) + v4;
+    uint8_t *v9 = v1.at + (size_t)v6;
+    *v9 = v5;
+    return;
+}
+
 /* node_bytes::next_frame::next_frame */
 KD_STATIC struct kd_node_bytes_next_frame_GivenOut kd_node_bytes_next_frame_next_frame(struct kd_slice v1,
     struct kd_slice v2)
@@ -3005,115 +3358,130 @@ struct kosmydore_answered kosmydore_set_up(struct kosmydore_node node, uint32_t 
 }
 
 /* node::Node::hear */
-KD_STATIC struct kd_node_Delivered kd_node_Node_hear(struct kosmydore_node v1, uint32_t v2, uint8_t v3,
+KD_STATIC struct kd_node_Heard kd_node_Node_hear(struct kosmydore_node v1, uint32_t v2, uint8_t v3,
     struct kd_slice v4, struct kd_slice v5)
 {
-    struct kd_node_Delivered v0;
+    struct kd_node_Heard v0;
     struct kosmydore_node v6;
 
     v6 = v1;
-    uint64_t v16 = (uint64_t)v5.length;
-    bool v17 = v16 < UINT64_C(16);
-    if (v17) {
-        struct kosmydore_node v18 = v6;
-        uint8_t v19 = 11u;
-        v0.f0 = v18;
-        v0.f1 = v19;
+    uint64_t v18 = (uint64_t)v5.length;
+    bool v19 = v18 < UINT64_C(16);
+    if (v19) {
+        struct kosmydore_node v20 = v6;
+        uint8_t v21 = 11u;
+        uint8_t v22 = 0u;
+        v0.f0 = v20;
+        v0.f1 = v21;
         v0.f2 = UINT64_C(0);
+        v0.f3 = v22;
         return v0;
     }
-    bool v20 = kd_wire_frame_bad_frame(v2, v3, v4);
-    if (v20) {
-        struct kosmydore_node v21 = v6;
-        uint8_t v22 = 4u;
-        v0.f0 = v21;
-        v0.f1 = v22;
+    v19 = kd_wire_ids_BusId_is_bare(v2);
+    uint8_t v7 = kd_wire_frame_frame_reply(v19, v2, v3, v4);
+    uint32_t v23 = kd_wire_reply_Reply_number(v7);
+    v19 = v23 != UINT32_C(0);
+    if (v19) {
+        struct kosmydore_node v24 = v6;
+        uint8_t v25 = 0u;
+        v0.f0 = v24;
+        v0.f1 = v7;
         v0.f2 = UINT64_C(0);
+        v0.f3 = v25;
         return v0;
     }
-    struct kd_wire_ids_Parts v7 = kd_wire_ids_BusId_split(v2);
-    uint32_t v8 = v7.f1;
-    uint32_t v9 = v7.f2;
-    uint64_t v10 = UINT64_C(0);
+    struct kd_wire_ids_Parts v8 = kd_wire_ids_BusId_split(v2);
+    uint32_t v9 = v8.f1;
+    uint32_t v10 = v8.f2;
+    uint64_t v11 = UINT64_C(0);
     for (;;) {
-        bool v23 = v10 < UINT64_C(32);
-        if (!v23) {
+        bool v26 = v11 < UINT64_C(32);
+        if (!v26) {
             break;
         }
-        uint64_t v24 = v10 * UINT64_C(32);
-        uint8_t *v25 = (uint8_t *)&v6.slots;
-        uint8_t *v26 = v25 + (size_t)v24;
-        struct kosmydore_slot v27 = *(struct kosmydore_slot *)(void *)v26;
-        struct kosmydore_slot v11 = v27;
-        bool v28 = kd_node_slots_Slot_is_of(v11, v8);
-        if (v28) {
+        uint64_t v27 = v11 * UINT64_C(32);
+        uint8_t *v28 = (uint8_t *)&v6.slots;
+        uint8_t *v29 = v28 + (size_t)v27;
+        struct kosmydore_slot v30 = *(struct kosmydore_slot *)(void *)v29;
+        struct kosmydore_slot v12 = v30;
+        bool v31 = kd_node_slots_Slot_is_of(v12, v9);
+        if (v31) {
             break;
         }
-        v10 = v10 + UINT64_C(1);
+        v11 = v11 + UINT64_C(1);
     }
-    v17 = UINT64_C(32) <= v10;
-    if (v17) {
-        struct kosmydore_node v29 = v6;
-        uint8_t v30 = 5u;
-        v0.f0 = v29;
-        v0.f1 = v30;
+    v19 = UINT64_C(32) <= v11;
+    if (v19) {
+        struct kosmydore_node v32 = v6;
+        uint8_t v33 = 5u;
+        uint8_t v34 = 0u;
+        v0.f0 = v32;
+        v0.f1 = v33;
         v0.f2 = UINT64_C(0);
+        v0.f3 = v34;
         return v0;
     }
-    v16 = v10 * UINT64_C(32);
-    uint8_t *v31 = (uint8_t *)&v6.slots;
-    uint8_t *v32 = v31 + (size_t)v16;
-    struct kosmydore_slot v33 = *(struct kosmydore_slot *)(void *)v32;
-    struct kosmydore_slot v12 = v33;
-    uint8_t v13 = kd_node_slots_Slot_hear_reply(v12, v9, v4);
-    uint32_t v34 = kd_wire_reply_Reply_number(v13);
-    v17 = v34 != UINT32_C(0);
-    if (v17) {
-        struct kosmydore_node v35 = v6;
-        v0.f0 = v35;
-        v0.f1 = v13;
+    v18 = v11 * UINT64_C(32);
+    uint8_t *v35 = (uint8_t *)&v6.slots;
+    uint8_t *v36 = v35 + (size_t)v18;
+    struct kosmydore_slot v37 = *(struct kosmydore_slot *)(void *)v36;
+    struct kosmydore_slot v13 = v37;
+    uint8_t v14 = kd_node_slots_Slot_hear_reply(v13, v10, v4);
+    v23 = kd_wire_reply_Reply_number(v14);
+    v19 = v23 != UINT32_C(0);
+    if (v19) {
+        struct kosmydore_node v38 = v6;
+        uint8_t v39 = 0u;
+        v0.f0 = v38;
+        v0.f1 = v14;
         v0.f2 = UINT64_C(0);
+        v0.f3 = v39;
         return v0;
     }
-    uint16_t v36 = v6.counter;
-    struct kosmydore_slot v14 = kd_node_slots_Slot_hear(v12, v36, v9, v4);
-    v16 = v10 * UINT64_C(32);
-    uint8_t *v37 = (uint8_t *)&v6.slots;
-    uint8_t *v38 = v37 + (size_t)v16;
-    *(struct kosmydore_slot *)(void *)v38 = v14;
-    uint8_t *v39 = v5.at;
-    struct kd_slice v40;
-    v40.at = v39;
-    v40.length = (size_t)(uint64_t)v5.length;
-    uint64_t v15 = kd_node_hear_deliver_plain(v40, v8, v9, v4);
-    struct kosmydore_node v41 = v6;
-    uint8_t v42 = 0u;
-    v0.f0 = v41;
-    v0.f1 = v42;
-    v0.f2 = v15;
+    uint8_t v15 = kd_node_slots_Slot_told(v13, v10);
+    uint16_t v40 = v6.counter;
+    struct kosmydore_slot v16 = kd_node_slots_Slot_hear(v13, v40, v10, v4);
+    v18 = v11 * UINT64_C(32);
+    uint8_t *v41 = (uint8_t *)&v6.slots;
+    uint8_t *v42 = v41 + (size_t)v18;
+    *(struct kosmydore_slot *)(void *)v42 = v16;
+    uint8_t *v43 = v5.at;
+    struct kd_slice v44;
+    v44.at = v43;
+    v44.length = (size_t)(uint64_t)v5.length;
+    uint64_t v17 = kd_node_hear_deliver_plain(v44, v9, v10, v4);
+    struct kosmydore_node v45 = v6;
+    uint8_t v46 = 0u;
+    v0.f0 = v45;
+    v0.f1 = v46;
+    v0.f2 = v17;
+    v0.f3 = v15;
     return v0;
 }
 
 /* firmware::calls::kosmydore_hear */
-struct kosmydore_delivered kosmydore_hear(struct kosmydore_node node, uint32_t id, uint32_t dlc,
-    const uint8_t *payload, size_t payload_length, uint8_t *output, size_t output_length)
+struct kosmydore_heard kosmydore_hear(struct kosmydore_node node, uint32_t id, uint32_t dlc, const uint8_t *payload,
+    size_t payload_length, uint8_t *output, size_t output_length)
 {
     struct kd_slice v4 = {(uint8_t *)payload, payload_length};
     struct kd_slice v5 = {output, output_length};
-    struct kosmydore_delivered v0;
+    struct kosmydore_heard v0;
 
     uint8_t v6 = kd_firmware_judged_dlc_of(dlc);
-    uint32_t v10 = id;
-    uint8_t *v11 = v5.at;
-    struct kd_slice v12;
-    v12.at = v11;
-    v12.length = (size_t)(uint64_t)v5.length;
-    struct kd_node_Delivered v7 = kd_node_Node_hear(node, v10, v6, v4, v12);
+    uint32_t v11 = id;
+    uint8_t *v12 = v5.at;
+    struct kd_slice v13;
+    v13.at = v12;
+    v13.length = (size_t)(uint64_t)v5.length;
+    struct kd_node_Heard v7 = kd_node_Node_hear(node, v11, v6, v4, v13);
     struct kosmydore_node v8 = v7.f0;
     uint8_t v9 = v7.f1;
-    uint32_t v13 = kd_wire_reply_Reply_number(v9);
+    uint8_t v10 = v7.f3;
+    uint32_t v14 = kd_wire_reply_Reply_number(v9);
+    uint32_t v15 = kd_node_told_Told_number(v10);
     v0.node = v8;
-    v0.reply = v13;
+    v0.reply = v14;
+    v0.told = v15;
     v0.written = (size_t)v7.f2;
     return v0;
 }
@@ -3153,124 +3521,134 @@ KD_STATIC struct kd_u8_8 kd_node_slots_Message_all_bytes(struct kosmydore_messag
 }
 
 /* node::Node::tick */
-KD_STATIC struct kd_node_Delivered kd_node_Node_tick(struct kosmydore_node v1, struct kd_slice v2)
+KD_STATIC struct kd_node_Ticked kd_node_Node_tick(struct kosmydore_node v1, struct kd_slice v2)
 {
-    struct kd_node_Delivered v0;
+    struct kd_node_Ticked v0;
     struct kosmydore_node v3;
-    struct kd_u8_8 v12;
+    struct kd_u8_8 v14;
 
     v3 = v1;
-    uint64_t v15 = (uint64_t)v2.length;
-    bool v16 = v15 < UINT64_C(512);
-    if (v16) {
-        struct kosmydore_node v17 = v3;
-        uint8_t v18 = 11u;
-        v0.f0 = v17;
-        v0.f1 = v18;
+    uint64_t v17 = (uint64_t)v2.length;
+    bool v18 = v17 < UINT64_C(512);
+    if (v18) {
+        struct kosmydore_node v19 = v3;
+        uint8_t v20 = 11u;
+        v0.f0 = v19;
+        v0.f1 = v20;
         v0.f2 = UINT64_C(0);
+        v0.f3 = UINT32_C(0);
+        v0.f4 = UINT32_C(0);
         return v0;
     }
-    uint16_t v19 = v3.counter;
-    uint16_t v4 = kd_node_tick_next(v19);
+    uint16_t v21 = v3.counter;
+    uint16_t v4 = kd_node_tick_next(v21);
     v3.counter = v4;
     uint64_t v5 = UINT64_C(0);
-    uint64_t v6 = UINT64_C(0);
+    uint32_t v6 = UINT32_C(0);
+    uint32_t v7 = UINT32_C(0);
+    uint64_t v8 = UINT64_C(0);
     for (;;) {
-        bool v20 = v6 < UINT64_C(32);
-        if (!v20) {
+        bool v22 = v8 < UINT64_C(32);
+        if (!v22) {
             break;
         }
-        uint64_t v7 = v6;
-        v6 = v6 + UINT64_C(1);
-        uint64_t v21 = v7 * UINT64_C(32);
-        uint8_t *v22 = (uint8_t *)&v3.slots;
-        uint8_t *v23 = v22 + (size_t)v21;
-        struct kosmydore_slot v24 = *(struct kosmydore_slot *)(void *)v23;
-        struct kosmydore_slot v8 = v24;
-        uint16_t v9 = kd_node_tick_age(v4, v8.message.stamp);
-        bool v25 = kd_node_slots_Slot_may_stir(v8, v9);
-        if (v25) {
-            uint64_t v26 = v7 * UINT64_C(32);
-            uint8_t *v27 = (uint8_t *)&v3.slots;
-            uint8_t *v28 = v27 + (size_t)v26;
-            struct kosmydore_slot v29 = *(struct kosmydore_slot *)(void *)v28;
-            struct kosmydore_slot v10 = v29;
-            bool v30 = kd_node_slots_Slot_due(v10, v9);
-            if (v30) {
-                struct kosmydore_slot v31 = kd_node_slots_Slot_delivered(v10);
-                uint64_t v32 = v7 * UINT64_C(32);
-                uint8_t *v33 = (uint8_t *)&v3.slots;
-                uint8_t *v34 = v33 + (size_t)v32;
-                *(struct kosmydore_slot *)(void *)v34 = v31;
-                struct kosmydore_message v11 = v10.message;
-                struct kd_u8_8 v35 = kd_node_slots_Message_all_bytes(v11);
-                v12 = v35;
-                uint64_t v13 = kd_node_slots_Message_payload_length(v11);
-                uint8_t *v36 = v2.at + (size_t)v5;
-                uint64_t v37 = (uint64_t)v2.length - v5;
-                uint8_t *v38 = v36;
-                struct kd_slice v39;
-                v39.at = v38;
-                v39.length = (size_t)v37;
-                uint8_t *v40 = (uint8_t *)&v12;
-                uint8_t *v41 = v40 + (size_t)UINT64_C(0);
-                uint64_t v42 = v13 - UINT64_C(0);
-                uint8_t *v43 = v41;
-                struct kd_slice v44;
-                v44.at = v43;
-                v44.length = (size_t)v42;
-                v32 = kd_wire_delivered_write_record(v39, v10.stream, v44);
-                v5 = v5 + v32;
+        uint64_t v9 = v8;
+        v8 = v8 + UINT64_C(1);
+        uint64_t v23 = v9 * UINT64_C(32);
+        uint8_t *v24 = (uint8_t *)&v3.slots;
+        uint8_t *v25 = v24 + (size_t)v23;
+        struct kosmydore_slot v26 = *(struct kosmydore_slot *)(void *)v25;
+        struct kosmydore_slot v10 = v26;
+        uint16_t v11 = kd_node_tick_age(v4, v10.message.stamp);
+        bool v27 = kd_node_slots_Slot_may_stir(v10, v11);
+        if (v27) {
+            uint64_t v28 = v9 * UINT64_C(32);
+            uint8_t *v29 = (uint8_t *)&v3.slots;
+            uint8_t *v30 = v29 + (size_t)v28;
+            struct kosmydore_slot v31 = *(struct kosmydore_slot *)(void *)v30;
+            struct kosmydore_slot v12 = v31;
+            bool v32 = kd_node_slots_Slot_due(v12, v11);
+            if (v32) {
+                struct kosmydore_slot v33 = kd_node_slots_Slot_delivered(v12);
+                uint64_t v34 = v9 * UINT64_C(32);
+                uint8_t *v35 = (uint8_t *)&v3.slots;
+                uint8_t *v36 = v35 + (size_t)v34;
+                *(struct kosmydore_slot *)(void *)v36 = v33;
+                struct kosmydore_message v13 = v12.message;
+                struct kd_u8_8 v37 = kd_node_slots_Message_all_bytes(v13);
+                v14 = v37;
+                uint64_t v15 = kd_node_slots_Message_payload_length(v13);
+                uint8_t *v38 = v2.at + (size_t)v5;
+                uint64_t v39 = (uint64_t)v2.length - v5;
+                uint8_t *v40 = v38;
+                struct kd_slice v41;
+                v41.at = v40;
+                v41.length = (size_t)v39;
+                uint8_t *v42 = (uint8_t *)&v14;
+                uint8_t *v43 = v42 + (size_t)UINT64_C(0);
+                uint64_t v44 = v15 - UINT64_C(0);
+                uint8_t *v45 = v43;
+                struct kd_slice v46;
+                v46.at = v45;
+                v46.length = (size_t)v44;
+                v34 = kd_wire_delivered_write_record(v41, v12.stream, v46);
+                v5 = v5 + v34;
+                v7 = v7 + UINT32_C(1);
             } else {
-                uint64_t v45 = v7 * UINT64_C(32);
-                uint8_t *v46 = (uint8_t *)&v3.slots;
-                uint8_t *v47 = v46 + (size_t)v45;
-                struct kosmydore_slot v48 = *(struct kosmydore_slot *)(void *)v47;
-                struct kosmydore_slot v14 = v48;
-                bool v49 = kd_node_slots_Slot_late(v14, v9);
-                if (v49) {
-                    struct kosmydore_slot v50 = kd_node_slots_Slot_dropped(v14);
-                    uint64_t v51 = v7 * UINT64_C(32);
-                    uint8_t *v52 = (uint8_t *)&v3.slots;
-                    uint8_t *v53 = v52 + (size_t)v51;
-                    *(struct kosmydore_slot *)(void *)v53 = v50;
+                uint64_t v47 = v9 * UINT64_C(32);
+                uint8_t *v48 = (uint8_t *)&v3.slots;
+                uint8_t *v49 = v48 + (size_t)v47;
+                struct kosmydore_slot v50 = *(struct kosmydore_slot *)(void *)v49;
+                struct kosmydore_slot v16 = v50;
+                bool v51 = kd_node_slots_Slot_late(v16, v11);
+                if (v51) {
+                    struct kosmydore_slot v52 = kd_node_slots_Slot_dropped(v16);
+                    uint64_t v53 = v9 * UINT64_C(32);
+                    uint8_t *v54 = (uint8_t *)&v3.slots;
+                    uint8_t *v55 = v54 + (size_t)v53;
+                    *(struct kosmydore_slot *)(void *)v55 = v52;
+                    v6 = v6 + UINT32_C(1);
                 } else {
-                    bool v54 = kd_node_slots_Slot_hold_over(v14, v9);
-                    if (v54) {
-                        struct kosmydore_slot v55 = kd_node_slots_Slot_hold_ended(v14);
-                        uint64_t v56 = v7 * UINT64_C(32);
-                        uint8_t *v57 = (uint8_t *)&v3.slots;
-                        uint8_t *v58 = v57 + (size_t)v56;
-                        *(struct kosmydore_slot *)(void *)v58 = v55;
+                    bool v56 = kd_node_slots_Slot_hold_over(v16, v11);
+                    if (v56) {
+                        struct kosmydore_slot v57 = kd_node_slots_Slot_hold_ended(v16);
+                        uint64_t v58 = v9 * UINT64_C(32);
+                        uint8_t *v59 = (uint8_t *)&v3.slots;
+                        uint8_t *v60 = v59 + (size_t)v58;
+                        *(struct kosmydore_slot *)(void *)v60 = v57;
                     }
                 }
             }
         }
     }
-    struct kosmydore_node v59 = v3;
-    uint8_t v60 = 0u;
-    v0.f0 = v59;
-    v0.f1 = v60;
+    struct kosmydore_node v61 = v3;
+    uint8_t v62 = 0u;
+    v0.f0 = v61;
+    v0.f1 = v62;
     v0.f2 = v5;
+    v0.f3 = v6;
+    v0.f4 = v7;
     return v0;
 }
 
 /* firmware::calls::kosmydore_tick */
-struct kosmydore_delivered kosmydore_tick(struct kosmydore_node node, uint8_t *output, size_t output_length)
+struct kosmydore_ticked kosmydore_tick(struct kosmydore_node node, uint8_t *output, size_t output_length)
 {
     struct kd_slice v2 = {output, output_length};
-    struct kosmydore_delivered v0;
+    struct kosmydore_ticked v0;
 
     uint8_t *v6 = v2.at;
     struct kd_slice v7;
     v7.at = v6;
     v7.length = (size_t)(uint64_t)v2.length;
-    struct kd_node_Delivered v3 = kd_node_Node_tick(node, v7);
+    struct kd_node_Ticked v3 = kd_node_Node_tick(node, v7);
     struct kosmydore_node v4 = v3.f0;
     uint8_t v5 = v3.f1;
     uint32_t v8 = kd_wire_reply_Reply_number(v5);
     v0.node = v4;
     v0.reply = v8;
+    v0.dropped = v3.f3;
+    v0.delivered = v3.f4;
     v0.written = (size_t)v3.f2;
     return v0;
 }

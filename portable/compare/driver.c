@@ -74,16 +74,19 @@ static void by_value(struct bench *bench, const struct call *c, struct answer *a
         break;
     }
     case HEAR: {
-        struct kosmydore_delivered r = kosmydore_hear(*node, c->number, c->dlc, payload, c->payload_length, output, c->output_length);
+        struct kosmydore_heard r = kosmydore_hear(*node, c->number, c->dlc, payload, c->payload_length, output, c->output_length);
         *node = r.node;
         a->reply = r.reply;
+        a->told = r.told;
         a->written = (uint32_t)r.written;
         break;
     }
     case TICK: {
-        struct kosmydore_delivered r = kosmydore_tick(*node, output, c->output_length);
+        struct kosmydore_ticked r = kosmydore_tick(*node, output, c->output_length);
         *node = r.node;
         a->reply = r.reply;
+        a->dropped = r.dropped;
+        a->delivered = r.delivered;
         a->written = (uint32_t)r.written;
         break;
     }
@@ -114,16 +117,19 @@ static void lent(struct bench *bench, const struct call *c, struct answer *a)
     switch (c->kind) {
     case SET_UP: a->reply = kosmydore_module_set_up(node, c->node_length, c->number, settings_of(c), tally, c->tally_length); break;
     case HEAR: {
-        struct kosmydore_written r = kosmydore_module_hear(node, c->node_length, c->number, c->dlc, payload, c->payload_length,
-                                                           output, c->output_length, tally, c->tally_length);
+        struct kosmydore_module_heard r = kosmydore_module_hear(node, c->node_length, c->number, c->dlc, payload, c->payload_length,
+                                                                output, c->output_length, tally, c->tally_length);
         a->reply = r.reply;
+        a->told = r.told;
         a->written = (uint32_t)r.written;
         break;
     }
     case TICK: {
-        struct kosmydore_written r =
+        struct kosmydore_module_ticked r =
             kosmydore_module_tick(node, c->node_length, output, c->output_length, tally, c->tally_length);
         a->reply = r.reply;
+        a->dropped = r.dropped;
+        a->delivered = r.delivered;
         a->written = (uint32_t)r.written;
         break;
     }

@@ -206,8 +206,8 @@ pub const REFUSED: &[(&str, &str, &str)] = &[
     ("a number too wide", "(int 8 8)", "(int 8 256)"),
     ("mixed widths", "(int 8 8)", "(int 16 8)"),
     ("a field that is not there", "(field 4)", "(field 14)"),
-    ("a variant that is not there", "(variant 0)", "(variant 13)"),
-    ("a tag that is not there", "(aggregate (lcons (int 8 12) lnil))", "(aggregate (lcons (int 8 13) lnil))"),
+    ("a variant that is not there", "(variant 0)", "(variant 99)"),
+    ("a tag that is not there", "(aggregate (lcons (int 8 12) lnil))", "(aggregate (lcons (int 8 99) lnil))"),
     ("an exit too far", "(exit 1)", "(exit 7)"),
     ("a function that is not there", "(fnRef \"node::slots::pad\")", "(fnRef \"node::slots::pat\")"),
     (

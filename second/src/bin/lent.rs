@@ -26,6 +26,11 @@ fn main() -> ExitCode {
             // BadFrame is split's alone.
             let given = |reply: &Reply| seen.replies[reply.place()] > 0;
             part(Reply::ALL.iter().all(|reply| given(reply) == (*reply != Reply::BadFrame)));
+            println!("{}  ticks that dropped {}, and that delivered {}", seen.deeds, seen.dropping, seen.delivering);
+            let missing = seen.deeds.missing();
+            missing.iter().for_each(|deed| println!("{deed}"));
+            part(missing.is_empty());
+            part(seen.dropping > 0 && seen.delivering > 0);
         }
         Err(differs) => {
             println!("{differs}");
