@@ -61,7 +61,7 @@ pub lent-heard-so : (id : BusId) (dlc : ℕ) (payload output bytes : List ℕ)
 lent-heard-so id dlc payload output bytes = ap (lentAs bytes) (heard-so id dlc payload output (decode bytes))
 
 pub lent-set-up-so : (x : Stream) (s : SettingsC) (bytes : List ℕ)
-    → lentOutcome (Call.setUp x (settingsOf x s)) bytes ≡ lentOutcome (Call.setUp x (inNumbers s)) bytes
+    → lentOutcome (Call.setUp x (settingsOf s)) bytes ≡ lentOutcome (Call.setUp x (inNumbers s)) bytes
 lent-set-up-so x s bytes = ap (lentAs bytes) (set-up-so x s (decode bytes))
 
 -- what a call leaves goes by its outcome alone

@@ -63,7 +63,7 @@ pub extern "C" fn kosmydore_fresh() -> Node
 pub extern "C" fn kosmydore_set_up(node: Node, stream: u32, settings: SettingsC) -> AnsweredC
     ensures { λ r. ⌜ r ≡ answeredC (asAnswered (setUp (record { 0 = stream }) (inNumbers settings) node)) ⌝ }
 {
-    let judged = settings_of(stream, settings);
+    let judged = settings_of(settings);
     let answer = node.set_up(Stream(stream), judged);
     let after = answer.node;
     let reply = answer.reply;

@@ -78,7 +78,7 @@ pub extern "C" fn kosmydore_module_set_up(
     ensures tally { λ _. ⌜ Counts (Call.setUp (record { 0 = stream }) (inNumbers settings))
         (now (bytes .entry)) (now (tally .entry)) (now (tally .exit)) ⌝ }
 {
-    let judged = settings_of(stream, settings);
+    let judged = settings_of(settings);
     let reply = set_up(bytes, Stream(stream), judged);
     let number = reply.number();
     count_in(tally, number);
