@@ -1,8 +1,8 @@
 /*
- * Kosmydore 5.0.0: the node in C99
+ * Kosmydore 6.0.0: the node in C99
  *
  * Made by `./kosmydore portable DIR` from the proved program of the crate `firmware`. Not to be edited.
- *   program  sha256 cdc0bfe6da616b3882221574003442cffdfd409213af8f136dccac074f0efd95
+ *   program  sha256 74354b5f9bae42919301b0520aa1821946e4fc66d5d826df9c0bba744f62c02c
  *   kit      rattle-kit-5b logic 064da1ca440f63e7
  *
  * What this rests on. Proved is the program before its translation: every answer and every byte, for every input that
@@ -377,60 +377,69 @@ KD_STATIC bool kd_wire_settings_legal_numbers(uint32_t v1, uint32_t v2, uint32_t
 {
     bool v0;
 
-    bool v12 = v4 == UINT32_C(0);
-    bool v13 = v5 == UINT32_C(0);
-    bool v14 = v12 & v13;
-    bool v15 = v6 == UINT32_C(0);
-    bool v16 = v14 & v15;
-    bool v17 = v7 == UINT32_C(0);
-    bool v8 = v16 & v17;
-    v12 = UINT32_C(1) <= v4;
-    v17 = v4 <= UINT32_C(8000);
-    v16 = v12 & v17;
-    v15 = v5 == UINT32_C(0);
-    v14 = v16 & v15;
-    v13 = v6 == UINT32_C(0);
-    bool v18 = v14 & v13;
-    bool v19 = v4 <= v7;
-    bool v20 = v18 & v19;
-    bool v21 = v7 <= UINT32_C(16000);
-    bool v9 = v20 & v21;
-    v12 = UINT32_C(1) <= v4;
-    v21 = v4 <= UINT32_C(8000);
-    v20 = v12 & v21;
-    v19 = v4 <= v5;
-    v18 = v20 & v19;
-    v13 = v5 <= UINT32_C(8000);
-    v14 = v18 & v13;
-    v15 = UINT32_C(1) <= v6;
-    v16 = v14 & v15;
-    v17 = v6 <= UINT32_C(4000);
-    bool v22 = v16 & v17;
-    uint64_t v23 = (uint64_t)v5;
-    uint64_t v24 = (uint64_t)v6;
-    uint64_t v25 = v23 + v24;
-    uint64_t v26 = v25 + UINT64_C(1);
-    uint64_t v27 = (uint64_t)v7;
-    bool v28 = v26 <= v27;
-    bool v29 = v22 & v28;
-    bool v30 = v7 <= UINT32_C(16000);
-    bool v10 = v29 & v30;
-    uint32_t v31 = (uint32_t)0u;
-    v12 = v3 == v31;
-    v30 = v12 & v8;
-    uint32_t v32 = (uint32_t)1u;
-    v29 = v3 == v32;
-    v28 = v29 & v9;
-    v21 = v30 | v28;
-    uint32_t v33 = (uint32_t)2u;
-    v20 = v3 == v33;
-    v19 = v20 & v10;
-    bool v11 = v21 | v19;
-    v18 = v1 <= UINT32_C(134217727);
-    v31 = (uint32_t)1u;
-    v19 = v2 <= v31;
-    v13 = v18 & v19;
-    v0 = v13 & v11;
+    bool v8 = v1 <= UINT32_C(134217727);
+    uint32_t v9 = (uint32_t)1u;
+    bool v10 = v2 <= v9;
+    bool v11 = v8 & v10;
+    bool v12 = !v11;
+    if (v12) {
+        v0 = false;
+        return v0;
+    }
+    v9 = (uint32_t)0u;
+    v8 = v3 == v9;
+    if (v8) {
+        bool v13 = v4 == UINT32_C(0);
+        bool v14 = v5 == UINT32_C(0);
+        bool v15 = v13 & v14;
+        bool v16 = v6 == UINT32_C(0);
+        bool v17 = v15 & v16;
+        bool v18 = v7 == UINT32_C(0);
+        v0 = v17 & v18;
+        return v0;
+    }
+    v9 = (uint32_t)1u;
+    v11 = v3 == v9;
+    if (v11) {
+        bool v19 = UINT32_C(1) <= v4;
+        bool v20 = v4 <= UINT32_C(8000);
+        bool v21 = v19 & v20;
+        bool v22 = v5 == UINT32_C(0);
+        bool v23 = v21 & v22;
+        bool v24 = v6 == UINT32_C(0);
+        bool v25 = v23 & v24;
+        bool v26 = v4 <= v7;
+        bool v27 = v25 & v26;
+        bool v28 = v7 <= UINT32_C(16000);
+        v0 = v27 & v28;
+        return v0;
+    }
+    v9 = (uint32_t)2u;
+    v12 = v3 == v9;
+    if (v12) {
+        bool v29 = UINT32_C(1) <= v4;
+        bool v30 = v4 <= UINT32_C(8000);
+        bool v31 = v29 & v30;
+        bool v32 = v4 <= v5;
+        bool v33 = v31 & v32;
+        bool v34 = v5 <= UINT32_C(8000);
+        bool v35 = v33 & v34;
+        bool v36 = UINT32_C(1) <= v6;
+        bool v37 = v35 & v36;
+        bool v38 = v6 <= UINT32_C(4000);
+        bool v39 = v37 & v38;
+        uint64_t v40 = (uint64_t)v5;
+        uint64_t v41 = (uint64_t)v6;
+        uint64_t v42 = v40 + v41;
+        uint64_t v43 = v42 + UINT64_C(1);
+        uint64_t v44 = (uint64_t)v7;
+        bool v45 = v43 <= v44;
+        bool v46 = v39 & v45;
+        bool v47 = v7 <= UINT32_C(16000);
+        v0 = v46 & v47;
+        return v0;
+    }
+    v0 = false;
     return v0;
 }
 
@@ -579,19 +588,30 @@ KD_STATIC struct kosmydore_slot_settings kd_wire_settings_Settings_of_plain(uint
 }
 
 /* firmware::judged::settings_of */
-KD_STATIC struct kosmydore_slot_settings kd_firmware_judged_settings_of(uint32_t v1, struct kosmydore_settings v2)
+KD_STATIC struct kosmydore_slot_settings kd_firmware_judged_settings_of(struct kosmydore_settings v1)
 {
     struct kosmydore_slot_settings v0;
 
-    bool v3 = kd_wire_settings_legal_numbers(v1, v2.role, v2.class_, v2.data_reach, v2.confirm_delay, v2.abort_reach, v2.deliver_delay);
+    bool v3 = v1.role <= UINT32_C(255);
+    bool v4 = v1.class_ <= UINT32_C(255);
+    bool v5 = v3 & v4;
+    bool v6 = v1.data_reach <= UINT32_C(65535);
+    bool v7 = v5 & v6;
+    bool v8 = v1.confirm_delay <= UINT32_C(65535);
+    bool v9 = v7 & v8;
+    bool v10 = v1.abort_reach <= UINT32_C(65535);
+    bool v11 = v9 & v10;
+    bool v12 = v1.deliver_delay <= UINT32_C(65535);
+    bool v2 = v11 & v12;
+    v3 = v2;
     if (v3) {
-        uint8_t v4 = (uint8_t)v2.role;
-        uint8_t v5 = (uint8_t)v2.class_;
-        uint16_t v6 = (uint16_t)v2.data_reach;
-        uint16_t v7 = (uint16_t)v2.confirm_delay;
-        uint16_t v8 = (uint16_t)v2.abort_reach;
-        uint16_t v9 = (uint16_t)v2.deliver_delay;
-        v0 = kd_wire_settings_Settings_of(v4, v5, v6, v7, v8, v9);
+        uint8_t v13 = (uint8_t)v1.role;
+        uint8_t v14 = (uint8_t)v1.class_;
+        uint16_t v15 = (uint16_t)v1.data_reach;
+        uint16_t v16 = (uint16_t)v1.confirm_delay;
+        uint16_t v17 = (uint16_t)v1.abort_reach;
+        uint16_t v18 = (uint16_t)v1.deliver_delay;
+        v0 = kd_wire_settings_Settings_of(v13, v14, v15, v16, v17, v18);
         return v0;
     }
     v0 = kd_wire_settings_Settings_of_plain(2u);
@@ -1241,7 +1261,7 @@ uint32_t kosmydore_module_set_up(uint8_t *node, size_t node_length, uint32_t str
     struct kd_slice v4 = {(uint8_t *)tally, tally_length};
     uint32_t v0;
 
-    struct kosmydore_slot_settings v5 = kd_firmware_judged_settings_of(stream, settings);
+    struct kosmydore_slot_settings v5 = kd_firmware_judged_settings_of(settings);
     uint8_t *v8 = v1.at;
     struct kd_slice v9;
     v9.at = v8;
@@ -1770,6 +1790,85 @@ KD_STATIC struct kosmydore_slot kd_node_slots_Slot_hear(struct kosmydore_slot v1
     return v0;
 }
 
+/* wire::delivered::put_eight */
+KD_STATIC void kd_wire_delivered_put_eight(struct kd_slice v1, uint64_t v2, struct kd_slice v3)
+{
+    struct kd_u8_8 v4;
+
+    uint8_t *v5 = v3.at + (size_t)UINT64_C(0);
+    uint8_t v6 = *v5;
+    uint8_t *v7 = v3.at + (size_t)UINT64_C(1);
+    uint8_t v8 = *v7;
+    uint8_t *v9 = v3.at + (size_t)UINT64_C(2);
+    uint8_t v10 = *v9;
+    uint8_t *v11 = v3.at + (size_t)UINT64_C(3);
+    uint8_t v12 = *v11;
+    uint8_t *v13 = v3.at + (size_t)UINT64_C(4);
+    uint8_t v14 = *v13;
+    uint8_t *v15 = v3.at + (size_t)UINT64_C(5);
+    uint8_t v16 = *v15;
+    uint8_t *v17 = v3.at + (size_t)UINT64_C(6);
+    uint8_t v18 = *v17;
+    uint8_t *v19 = v3.at + (size_t)UINT64_C(7);
+    uint8_t v20 = *v19;
+    v4.at[0] = v6;
+    v4.at[1] = v8;
+    v4.at[2] = v10;
+    v4.at[3] = v12;
+    v4.at[4] = v14;
+    v4.at[5] = v16;
+    v4.at[6] = v18;
+    v4.at[7] = v20;
+    uint8_t *v21 = (uint8_t *)&v4;
+    uint8_t *v22 = v21 + (size_t)UINT64_C(0);
+    v6 = *v22;
+    uint8_t *v23 = v1.at + (size_t)v2;
+    *v23 = v6;
+    uint8_t *v24 = (uint8_t *)&v4;
+    uint8_t *v25 = v24 + (size_t)UINT64_C(1);
+    v20 = *v25;
+    uint64_t v26 = v2 + UINT64_C(1);
+    uint8_t *v27 = v1.at + (size_t)v26;
+    *v27 = v20;
+    uint8_t *v28 = (uint8_t *)&v4;
+    uint8_t *v29 = v28 + (size_t)UINT64_C(2);
+    v6 = *v29;
+    v26 = v2 + UINT64_C(2);
+    uint8_t *v30 = v1.at + (size_t)v26;
+    *v30 = v6;
+    uint8_t *v31 = (uint8_t *)&v4;
+    uint8_t *v32 = v31 + (size_t)UINT64_C(3);
+    v20 = *v32;
+    v26 = v2 + UINT64_C(3);
+    uint8_t *v33 = v1.at + (size_t)v26;
+    *v33 = v20;
+    uint8_t *v34 = (uint8_t *)&v4;
+    uint8_t *v35 = v34 + (size_t)UINT64_C(4);
+    v6 = *v35;
+    v26 = v2 + UINT64_C(4);
+    uint8_t *v36 = v1.at + (size_t)v26;
+    *v36 = v6;
+    uint8_t *v37 = (uint8_t *)&v4;
+    uint8_t *v38 = v37 + (size_t)UINT64_C(5);
+    v20 = *v38;
+    v26 = v2 + UINT64_C(5);
+    uint8_t *v39 = v1.at + (size_t)v26;
+    *v39 = v20;
+    uint8_t *v40 = (uint8_t *)&v4;
+    uint8_t *v41 = v40 + (size_t)UINT64_C(6);
+    v6 = *v41;
+    v26 = v2 + UINT64_C(6);
+    uint8_t *v42 = v1.at + (size_t)v26;
+    *v42 = v6;
+    uint8_t *v43 = (uint8_t *)&v4;
+    uint8_t *v44 = v43 + (size_t)UINT64_C(7);
+    v20 = *v44;
+    v26 = v2 + UINT64_C(7);
+    uint8_t *v45 = v1.at + (size_t)v26;
+    *v45 = v20;
+    return;
+}
+
 /* wire::delivered::put_record */
 KD_STATIC uint64_t kd_wire_delivered_put_record(struct kd_slice v1, uint32_t v2, struct kd_slice v3, uint64_t v4)
 {
@@ -1806,17 +1905,27 @@ KD_STATIC uint64_t kd_wire_delivered_put_record(struct kd_slice v1, uint32_t v2,
     v11 = (uint8_t)v16;
     uint8_t *v20 = v1.at + (size_t)UINT64_C(7);
     *v20 = v11;
+    bool v21 = v4 == UINT64_C(8);
+    if (v21) {
+        uint8_t *v23 = v1.at;
+        struct kd_slice v24;
+        v24.at = v23;
+        v24.length = (size_t)(uint64_t)v1.length;
+        kd_wire_delivered_put_eight(v24, UINT64_C(8), v3);
+        v0 = UINT64_C(8) + v4;
+        return v0;
+    }
     uint64_t v9 = UINT64_C(0);
     for (;;) {
-        bool v21 = v9 < v4;
-        if (!v21) {
+        bool v25 = v9 < v4;
+        if (!v25) {
             break;
         }
-        uint8_t *v22 = v3.at + (size_t)v9;
-        uint8_t v23 = *v22;
-        uint64_t v24 = UINT64_C(8) + v9;
-        uint8_t *v25 = v1.at + (size_t)v24;
-        *v25 = v23;
+        uint8_t *v26 = v3.at + (size_t)v9;
+        uint8_t v27 = *v26;
+        uint64_t v28 = UINT64_C(8) + v9;
+        uint8_t *v29 = v1.at + (size_t)v28;
+        *v29 = v27;
         v9 = v9 + UINT64_C(1);
     }
     v0 = UINT64_C(8) + v4;
@@ -2952,6 +3061,32 @@ KD_STATIC uint32_t kd_node_slots_Slot_lowest_code(struct kosmydore_slot v1)
     return v0;
 }
 
+/* wire::delivered::copy_eight */
+KD_STATIC void kd_wire_delivered_copy_eight(struct kd_slice v1, uint64_t v2, struct kd_slice v3)
+{
+    uint64_t v4 = (uint64_t)v1.length;
+    uint64_t v5 = (uint64_t)v3.length;
+    bool v6 = v5 < UINT64_C(8);
+    if (v6) {
+        return;
+    }
+    v6 = v4 < UINT64_C(8);
+    if (v6) {
+        return;
+    }
+    v5 = v4 - UINT64_C(8);
+    v6 = v5 < v2;
+    if (v6) {
+        return;
+    }
+    uint8_t *v8 = v1.at;
+    struct kd_slice v9;
+    v9.at = v8;
+    v9.length = (size_t)(uint64_t)v1.length;
+    kd_wire_delivered_put_eight(v9, v2, v3);
+    return;
+}
+
 /* node::next_frame::put_payload */
 KD_STATIC uint64_t kd_node_next_frame_put_payload(struct kd_slice v1, struct kosmydore_message v2)
 {
@@ -2966,17 +3101,34 @@ KD_STATIC uint64_t kd_node_next_frame_put_payload(struct kd_slice v1, struct kos
         return v0;
     }
     memcpy(v4.at, v2.bytes, sizeof(struct kd_u8_8));
+    v7 = v3 == UINT64_C(8);
+    if (v7) {
+        uint8_t *v9 = v1.at;
+        struct kd_slice v10;
+        v10.at = v9;
+        v10.length = (size_t)(uint64_t)v1.length;
+        uint8_t *v11 = (uint8_t *)&v4;
+        uint8_t *v12 = v11 + (size_t)UINT64_C(0);
+        uint64_t v13 = v3 - UINT64_C(0);
+        uint8_t *v14 = v12;
+        struct kd_slice v15;
+        v15.at = v14;
+        v15.length = (size_t)v13;
+        kd_wire_delivered_copy_eight(v10, UINT64_C(0), v15);
+        v0 = v3;
+        return v0;
+    }
     uint64_t v5 = UINT64_C(0);
     for (;;) {
-        bool v8 = v5 < v3;
-        if (!v8) {
+        bool v16 = v5 < v3;
+        if (!v16) {
             break;
         }
-        uint8_t *v9 = (uint8_t *)&v4;
-        uint8_t *v10 = v9 + (size_t)v5;
-        uint8_t v11 = *v10;
-        uint8_t *v12 = v1.at + (size_t)v5;
-        *v12 = v11;
+        uint8_t *v17 = (uint8_t *)&v4;
+        uint8_t *v18 = v17 + (size_t)v5;
+        uint8_t v19 = *v18;
+        uint8_t *v20 = v1.at + (size_t)v5;
+        *v20 = v19;
         v5 = v5 + UINT64_C(1);
     }
     v0 = v3;
@@ -3025,22 +3177,49 @@ KD_STATIC struct kosmydore_slot kd_node_slots_Slot_given_out(struct kosmydore_sl
     return v0;
 }
 
-/* node_bytes::slots::put_pending */
-KD_STATIC void kd_node_bytes_slots_put_pending(struct kd_slice v1, uint64_t v2, struct kosmydore_pending v3)
+/* node_bytes::numbers::put_flag */
+KD_STATIC void kd_node_bytes_numbers_put_flag(struct kd_slice v1, uint64_t v2, bool v3, bool v4)
 {
-    uint64_t v4 = UINT64_C(32) * v2;
-    uint8_t v5 = kd_node_bytes_numbers_flag(v3.payload);
-    uint64_t v6 = UINT64_C(8) + v4;
-    uint8_t *v7 = v1.at + (size_t)v6;
-    *v7 = v5;
-    v5 = kd_node_bytes_numbers_flag(v3.confirmation);
-    v6 = UINT64_C(9) + v4;
-    uint8_t *v8 = v1.at + (size_t)v6;
-    *v8 = v5;
-    v5 = kd_node_bytes_numbers_flag(v3.abort);
-    v6 = UINT64_C(10) + v4;
-    uint8_t *v9 = v1.at + (size_t)v6;
-    *v9 = v5;
+    bool v5 = v4;
+    if (v5) {
+        bool v6 = !v3;
+        if (v6) {
+            uint8_t *v7 = v1.at + (size_t)v2;
+            *v7 = 1u;
+        }
+        return;
+    }
+    v5 = v3;
+    if (v5) {
+        uint8_t *v8 = v1.at + (size_t)v2;
+        *v8 = 0u;
+    }
+    return;
+}
+
+/* node_bytes::slots::put_pending */
+KD_STATIC void kd_node_bytes_slots_put_pending(struct kd_slice v1, uint64_t v2, struct kosmydore_pending v3,
+    struct kosmydore_pending v4)
+{
+    uint64_t v5 = UINT64_C(32) * v2;
+    uint8_t *v7 = v1.at;
+    struct kd_slice v8;
+    v8.at = v7;
+    v8.length = (size_t)(uint64_t)v1.length;
+    uint64_t v9 = UINT64_C(8) + v5;
+    kd_node_bytes_numbers_put_flag(v8, v9, v3.payload, v4.payload);
+    uint8_t *v10 = v1.at;
+    struct kd_slice v11;
+    v11.at = v10;
+    v11.length = (size_t)(uint64_t)v1.length;
+    v9 = UINT64_C(9) + v5;
+    kd_node_bytes_numbers_put_flag(v11, v9, v3.confirmation, v4.confirmation);
+    uint8_t *v12 = v1.at;
+    struct kd_slice v13;
+    v13.at = v12;
+    v13.length = (size_t)(uint64_t)v1.length;
+    v9 = UINT64_C(10) + v5;
+    kd_node_bytes_numbers_put_flag(v13, v9, v3.abort, v4.abort);
     return;
 }
 
@@ -3103,7 +3282,7 @@ KD_STATIC struct kd_node_bytes_next_frame_GivenOut kd_node_bytes_next_frame_next
     struct kd_slice v27;
     v27.at = v26;
     v27.length = (size_t)(uint64_t)v1.length;
-    kd_node_bytes_slots_put_pending(v27, v3, v10.pending);
+    kd_node_bytes_slots_put_pending(v27, v3, v4.pending, v10.pending);
     uint8_t v28 = 0u;
     v0.f0 = v28;
     v0.f1 = v8;
@@ -3346,7 +3525,7 @@ struct kosmydore_answered kosmydore_set_up(struct kosmydore_node node, uint32_t 
 {
     struct kosmydore_answered v0;
 
-    struct kosmydore_slot_settings v4 = kd_firmware_judged_settings_of(stream, settings);
+    struct kosmydore_slot_settings v4 = kd_firmware_judged_settings_of(settings);
     uint32_t v8 = stream;
     struct kd_node_Answered v5 = kd_node_Node_set_up(node, v8, v4);
     struct kosmydore_node v6 = v5.f0;

@@ -1,8 +1,8 @@
 /*
- * Kosmydore 5.0.0: the header of kosmydore.c
+ * Kosmydore 6.0.0: the header of kosmydore.c
  *
  * Made by `./kosmydore portable DIR` from the proved program of the crate `firmware`. Not to be edited.
- *   program  sha256 cdc0bfe6da616b3882221574003442cffdfd409213af8f136dccac074f0efd95
+ *   program  sha256 74354b5f9bae42919301b0520aa1821946e4fc66d5d826df9c0bba744f62c02c
  *   kit      rattle-kit-5b logic 064da1ca440f63e7
  *
  * What this rests on. Proved is the program before its translation: every answer and every byte, for every input that
@@ -47,8 +47,8 @@
 #define KOSMYDORE_H
 
 /* The version, as the file VERSION and `./kosmydore --version` have it. */
-#define KOSMYDORE_VERSION "5.0.0"
-#define KOSMYDORE_VERSION_MAJOR 5
+#define KOSMYDORE_VERSION "6.0.0"
+#define KOSMYDORE_VERSION_MAJOR 6
 #define KOSMYDORE_VERSION_MINOR 0
 #define KOSMYDORE_VERSION_PATCH 0
 
