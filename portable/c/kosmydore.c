@@ -2,7 +2,7 @@
  * Kosmydore 6.0.0: the node in C99
  *
  * Made by `./kosmydore portable DIR` from the proved program of the crate `firmware`. Not to be edited.
- *   program  sha256 74354b5f9bae42919301b0520aa1821946e4fc66d5d826df9c0bba744f62c02c
+ *   program  sha256 399debce4491612b7863ed78406e05dfac58789db7d687461779e437489824ac
  *   kit      rattle-kit-5b logic 064da1ca440f63e7
  *
  * What this rests on. Proved is the program before its translation: every answer and every byte, for every input that
@@ -61,10 +61,6 @@ struct kd_wire_ids_Parts {
 struct kd_wire_delivered_RecordLength {
     uint8_t f0;
     uint32_t f1;
-};
-
-struct kd_u32_17 {
-    uint32_t at[17];
 };
 
 struct kd_bool_4 {
@@ -1196,24 +1192,24 @@ KD_STATIC uint8_t kd_node_bytes_set_up_set_up(struct kd_slice v1, uint32_t v2, s
 KD_STATIC uint64_t kd_module_tally_Tally_place_of(uint32_t v1)
 {
     uint64_t v0;
-    static const struct kd_u32_17 v4 = {{UINT32_C(0), UINT32_C(1), UINT32_C(2), UINT32_C(3), UINT32_C(4), UINT32_C(5), UINT32_C(6), UINT32_C(7), UINT32_C(8), UINT32_C(9), UINT32_C(10), UINT32_C(11), UINT32_C(12), UINT32_C(18), UINT32_C(19), UINT32_C(20), UINT32_C(21)}};
 
-    uint64_t v2 = UINT64_C(0);
-    for (;;) {
-        bool v3 = v2 < UINT64_C(17);
-        if (!v3) {
-            break;
-        }
-        uint64_t v5 = v2 * UINT64_C(4);
-        uint8_t *v6 = (uint8_t *)&v4;
-        uint8_t *v7 = v6 + (size_t)v5;
-        uint32_t v8 = *(uint32_t *)(void *)v7;
-        v3 = v8 == v1;
-        if (v3) {
-            v0 = v2;
-            return v0;
-        }
-        v2 = v2 + UINT64_C(1);
+    bool v3 = v1 <= UINT32_C(12);
+    if (v3) {
+        v0 = (uint64_t)v1;
+        return v0;
+    }
+    uint32_t v4 = UINT32_C(12) + UINT32_C(5);
+    v3 = v1 <= v4;
+    if (v3) {
+        v0 = UINT64_C(17);
+        return v0;
+    }
+    v4 = v1 - UINT32_C(5);
+    uint64_t v2 = (uint64_t)v4;
+    v3 = v2 < UINT64_C(17);
+    if (v3) {
+        v0 = v2;
+        return v0;
     }
     v0 = UINT64_C(17);
     return v0;

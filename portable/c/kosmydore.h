@@ -2,7 +2,7 @@
  * Kosmydore 6.0.0: the header of kosmydore.c
  *
  * Made by `./kosmydore portable DIR` from the proved program of the crate `firmware`. Not to be edited.
- *   program  sha256 74354b5f9bae42919301b0520aa1821946e4fc66d5d826df9c0bba744f62c02c
+ *   program  sha256 399debce4491612b7863ed78406e05dfac58789db7d687461779e437489824ac
  *   kit      rattle-kit-5b logic 064da1ca440f63e7
  *
  * What this rests on. Proved is the program before its translation: every answer and every byte, for every input that

@@ -76,6 +76,19 @@ static void settings(struct call *call, uint64_t *state)
         default: call->class_ = below(state, 2) ? below(state, 5) : edge(state); break;
         }
     }
+    if (below(state, 8) == 0) { /* legal only if they were cut */
+        switch (below(state, 3)) {
+        case 0: call->role += 256; break;
+        case 1: call->class_ += 256; break;
+        default:
+            if (below(state, 2)) {
+                call->class_ = 0;
+                memset(call->s, 0, sizeof call->s);
+            }
+            call->s[below(state, 4)] += 65536;
+            break;
+        }
+    }
 }
 
 static uint16_t room(uint64_t *state, uint16_t least)

@@ -37,6 +37,11 @@ impl Tally {
         counts: [0; Tally::SIZE],
     };
 
+    // All numbers up to this one are counted, then so many are left out.
+    pub const FIRST_END: u32 = 12;
+
+    pub const LEFT_OUT: u32 = 5;
+
     // A count stays here once there.
     pub const MOST: u32 = 4294967295;
 
@@ -56,12 +61,15 @@ impl Tally {
     pub fn place_of(number: u32) -> usize
         ensures { λ r. ⌜ r ≡ position number counted ⌝ }
     {
-        let mut i: usize = 0;
-        while i < Tally::SIZE {
-            if Tally::NUMBERS[i] == number {
-                return i;
-            }
-            i += 1;
+        if number <= Tally::FIRST_END {
+            return number as usize;
+        }
+        if number <= Tally::FIRST_END + Tally::LEFT_OUT {
+            return Tally::SIZE;
+        }
+        let i = (number - Tally::LEFT_OUT) as usize;
+        if i < Tally::SIZE {
+            return i;
         }
         Tally::SIZE
     }
