@@ -76,10 +76,11 @@ static void settings(struct call *call, uint64_t *state)
         default: call->class_ = below(state, 2) ? below(state, 5) : edge(state); break;
         }
     }
-    if (below(state, 8) == 0) { /* legal only if they were cut */
-        switch (below(state, 3)) {
+    if (below(state, 8) == 0) { /* legal but for one, or only if they were cut */
+        switch (below(state, 4)) {
         case 0: call->role += 256; break;
         case 1: call->class_ += 256; break;
+        case 2: call->s[below(state, 4)] = 0; break;
         default:
             if (below(state, 2)) {
                 call->class_ = 0;

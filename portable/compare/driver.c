@@ -155,7 +155,7 @@ void MAKE_CALL(struct bench *bench, const struct call *c, struct answer *a)
     switch (c->kind) {
     case NUMBERS: numbers(c, a); break;
     case COUNT: {
-        uint32_t reply = c->code < 11 ? c->code + c->number % 4 : c->code;
+        uint32_t reply = c->code ? c->number % 26 : c->number;
         a->reply = kosmydore_count(bench->tally[c->node], c->tally_length, reply);
         break;
     }
