@@ -6,40 +6,47 @@ struct answered set_up(struct node *node, uint32_t stream, struct settings setti
     return (struct answered){legal(stream, &settings) ? put_in(node, stream, settings) : BAD_SETTINGS};
 }
 
-struct delivered hear(struct node *node, uint32_t id, uint8_t dlc, const uint8_t *payload, size_t len, uint8_t *out,
-                      size_t room)
+struct heard hear(struct node *node, uint32_t id, uint8_t dlc, const uint8_t *payload, size_t len, uint8_t *out,
+                  size_t room)
 {
     uint32_t stream = id / 4;
     uint32_t code = id % 4;
     struct slot *slot;
+    enum reply reply;
+    enum told told;
     size_t i;
 
     if (room < 16) {
-        return (struct delivered){SHORT_OUTPUT, 0};
+        return (struct heard){SHORT_OUTPUT, 0, TOLD_NOTHING};
     }
-    if (bad_frame(id, dlc, len)) {
-        return (struct delivered){BAD_FRAME, 0};
+    reply = fault_in(id, dlc, len);
+    if (reply != DONE) {
+        return (struct heard){reply, 0, TOLD_NOTHING};
     }
     i = find(node, stream);
     if (i == SLOTS || node->slots[i].settings.role != RECEIVE) {
-        return (struct delivered){NOT_MINE, 0};
+        return (struct heard){NOT_MINE, 0, TOLD_NOTHING};
     }
     slot = &node->slots[i];
     if (!carries[slot->settings.class_][code]) {
-        return (struct delivered){MISFIT, 0};
+        return (struct heard){MISFIT, 0, TOLD_NOTHING};
     }
     if (code == CODE_PLAIN) {
-        return (struct delivered){DONE, write_record(out, stream, payload, len)};
+        return (struct heard){DONE, write_record(out, stream, payload, len), TOLD_DELIVERED};
     }
-    return (struct delivered){hear_by(slot, node->counter, code, payload, len), 0};
+    told = hear_by(slot, node->counter, code, payload, len);
+    return (struct heard){told == TOLD_NOTHING ? CLASH : DONE, 0, told};
 }
 
-struct delivered tick(struct node *node, uint8_t *out, size_t room)
+struct ticked tick(struct node *node, uint8_t *out, size_t room)
 {
+    struct happened h;
+
     if (room < 512) {
-        return (struct delivered){SHORT_OUTPUT, 0};
+        return (struct ticked){SHORT_OUTPUT, 0, 0, 0};
     }
-    return (struct delivered){DONE, tick_all(node, out)};
+    h = tick_all(node, out);
+    return (struct ticked){DONE, h.written, h.dropped, h.delivered};
 }
 
 struct answered request(struct node *node, uint32_t stream, const uint8_t *payload, size_t len)

@@ -8,45 +8,47 @@ struct answered set_up(struct node node, uint32_t stream, struct settings settin
     return (struct answered){node, reply};
 }
 
-struct delivered hear(struct node node, uint32_t id, uint8_t dlc, const uint8_t *payload, size_t len, uint8_t *out,
-                      size_t room)
+struct heard hear(struct node node, uint32_t id, uint8_t dlc, const uint8_t *payload, size_t len, uint8_t *out,
+                  size_t room)
 {
     uint32_t stream = id / 4;
     uint32_t code = id % 4;
     struct slot *slot;
     enum reply reply;
+    enum told told;
     size_t i;
 
     if (room < 16) {
-        return (struct delivered){node, SHORT_OUTPUT, 0};
+        return (struct heard){node, SHORT_OUTPUT, 0, TOLD_NOTHING};
     }
-    if (bad_frame(id, dlc, len)) {
-        return (struct delivered){node, BAD_FRAME, 0};
+    reply = fault_in(id, dlc, len);
+    if (reply != DONE) {
+        return (struct heard){node, reply, 0, TOLD_NOTHING};
     }
     i = find(&node, stream);
     if (i == SLOTS || node.slots[i].settings.role != RECEIVE) {
-        return (struct delivered){node, NOT_MINE, 0};
+        return (struct heard){node, NOT_MINE, 0, TOLD_NOTHING};
     }
     slot = &node.slots[i];
     if (!carries[slot->settings.class_][code]) {
-        return (struct delivered){node, MISFIT, 0};
+        return (struct heard){node, MISFIT, 0, TOLD_NOTHING};
     }
     if (code == CODE_PLAIN) {
-        return (struct delivered){node, DONE, write_record(out, stream, payload, len)};
+        return (struct heard){node, DONE, write_record(out, stream, payload, len), TOLD_DELIVERED};
     }
-    reply = hear_by(slot, node.counter, code, payload, len);
-    return (struct delivered){node, reply, 0};
+    told = hear_by(slot, node.counter, code, payload, len);
+    return (struct heard){node, told == TOLD_NOTHING ? CLASH : DONE, 0, told};
 }
 
-struct delivered tick(struct node node, uint8_t *out, size_t room)
+struct ticked tick(struct node node, uint8_t *out, size_t room)
 {
-    size_t written;
+    struct happened h;
 
     if (room < 512) {
-        return (struct delivered){node, SHORT_OUTPUT, 0};
+        return (struct ticked){node, SHORT_OUTPUT, 0, 0, 0};
     }
-    written = tick_all(&node, out);
-    return (struct delivered){node, DONE, written};
+    h = tick_all(&node, out);
+    return (struct ticked){node, DONE, h.written, h.dropped, h.delivered};
 }
 
 struct answered request(struct node node, uint32_t stream, const uint8_t *payload, size_t len)

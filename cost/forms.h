@@ -1,8 +1,8 @@
 /* The forms of the node that the workloads run over, under one set of names:
- *   LIBRARY_LENT       the library's, in lent bytes, with a lent tally;
+ *   LIBRARY_LENT       the library's or the C file's, in lent bytes, with a lent tally;
  *   LIBRARY_BY_VALUE   the library's, by value;
  *   BY_VALUE           the one in C, by value;
- *   otherwise          the one in C, by pointer.
+ *   otherwise          the one in C, by pointer, or the one in Rust, by reference, on the same node.
  * LENT is the node as a call takes it, and BACK puts the node that the call gave back in its place. */
 #ifndef FORMS_H
 #define FORMS_H
@@ -21,7 +21,8 @@ typedef struct kosmydore_settings Settings;
 typedef struct settings Settings;
 typedef struct node Node;
 typedef struct answered Answered;
-typedef struct delivered Delivered;
+typedef struct heard Heard;
+typedef struct ticked Ticked;
 typedef struct given Given;
 #define SETTINGS(role, class_, rd, dc, ra, dd) ((Settings){rd, dc, ra, dd, role, class_})
 #define COUNTER_OF(node) ((node).counter)
@@ -41,7 +42,8 @@ typedef struct {
 typedef struct {
     uint32_t reply;
 } Answered;
-typedef struct kosmydore_written Delivered;
+typedef struct kosmydore_module_heard Heard;
+typedef struct kosmydore_module_ticked Ticked;
 typedef struct kosmydore_given_out Given;
 
 static uint32_t tally[KOSMYDORE_TALLY_SIZE];
@@ -70,7 +72,8 @@ static inline Node fresh(void)
 
 typedef struct kosmydore_node Node;
 typedef struct kosmydore_answered Answered;
-typedef struct kosmydore_delivered Delivered;
+typedef struct kosmydore_heard Heard;
+typedef struct kosmydore_ticked Ticked;
 typedef struct kosmydore_given Given;
 #define COUNTER_OF(node) ((node).counter)
 #define fresh kosmydore_fresh

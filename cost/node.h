@@ -25,7 +25,24 @@ enum reply {
     NOT_SENDER,
     BAD_LENGTH,
     SHORT_OUTPUT,
-    NOTHING
+    NOTHING,
+    IDENTIFIER_TOO_BIG = 18,
+    DLC_TOO_BIG,
+    PAYLOAD_LENGTH,
+    UNWANTED_PAYLOAD
+};
+
+/* What a frame did that was heard; TOLD_NOTHING beside every refusal. */
+enum told {
+    TOLD_NOTHING,
+    TOLD_NEW,
+    TOLD_DUPLICATE,
+    TOLD_CONFIRMED,
+    TOLD_CONFIRMED_AGAIN,
+    TOLD_ABORT_PENDING,
+    TOLD_DROPPED,
+    TOLD_NOTHING_TO_DROP,
+    TOLD_DELIVERED
 };
 
 enum { RECEIVE, SEND };
@@ -75,10 +92,19 @@ struct answered {
     enum reply reply;
 };
 
-struct delivered {
+struct heard {
     struct node node;
     enum reply reply;
     size_t written;
+    enum told told;
+};
+
+struct ticked {
+    struct node node;
+    enum reply reply;
+    size_t written;
+    uint32_t dropped;
+    uint32_t delivered;
 };
 
 struct given {
@@ -89,9 +115,9 @@ struct given {
 };
 
 struct answered set_up(struct node node, uint32_t stream, struct settings settings);
-struct delivered hear(struct node node, uint32_t id, uint8_t dlc, const uint8_t *payload, size_t len, uint8_t *out,
-                      size_t room);
-struct delivered tick(struct node node, uint8_t *out, size_t room);
+struct heard hear(struct node node, uint32_t id, uint8_t dlc, const uint8_t *payload, size_t len, uint8_t *out,
+                  size_t room);
+struct ticked tick(struct node node, uint8_t *out, size_t room);
 struct answered request(struct node node, uint32_t stream, const uint8_t *payload, size_t len);
 struct given next_frame(struct node node, uint8_t *out, size_t room);
 
@@ -101,9 +127,17 @@ struct answered {
     enum reply reply;
 };
 
-struct delivered {
+struct heard {
     enum reply reply;
     size_t written;
+    enum told told;
+};
+
+struct ticked {
+    enum reply reply;
+    size_t written;
+    uint32_t dropped;
+    uint32_t delivered;
 };
 
 struct given {
@@ -113,9 +147,9 @@ struct given {
 };
 
 struct answered set_up(struct node *node, uint32_t stream, struct settings settings);
-struct delivered hear(struct node *node, uint32_t id, uint8_t dlc, const uint8_t *payload, size_t len, uint8_t *out,
-                      size_t room);
-struct delivered tick(struct node *node, uint8_t *out, size_t room);
+struct heard hear(struct node *node, uint32_t id, uint8_t dlc, const uint8_t *payload, size_t len, uint8_t *out,
+                  size_t room);
+struct ticked tick(struct node *node, uint8_t *out, size_t room);
 struct answered request(struct node *node, uint32_t stream, const uint8_t *payload, size_t len);
 struct given next_frame(struct node *node, uint8_t *out, size_t room);
 

@@ -85,12 +85,22 @@ static inline size_t write_record(uint8_t *out, uint32_t stream, const uint8_t *
     return 8 + len;
 }
 
-static inline bool bad_frame(uint32_t id, uint8_t dlc, size_t len)
+/* The first fault in a frame; DONE where it has none. */
+static inline enum reply fault_in(uint32_t id, uint8_t dlc, size_t len)
 {
     uint32_t code = id % 4;
     size_t bytes = dlc > 8 ? 8 : dlc;
 
-    return id > MAX_BUS_ID || dlc > 15 || len != bytes || ((code == CODE_CONFIRMATION || code == CODE_ABORT) && dlc != 0);
+    if (id > MAX_BUS_ID) {
+        return IDENTIFIER_TOO_BIG;
+    }
+    if (dlc > 15) {
+        return DLC_TOO_BIG;
+    }
+    if (len != bytes) {
+        return PAYLOAD_LENGTH;
+    }
+    return (code == CODE_CONFIRMATION || code == CODE_ABORT) && dlc != 0 ? UNWANTED_PAYLOAD : DONE;
 }
 
 static inline void hold(struct message *m, uint16_t counter, const uint8_t *payload, size_t len)
@@ -103,45 +113,50 @@ static inline void hold(struct message *m, uint16_t counter, const uint8_t *payl
     memcpy(m->bytes, payload, len);
 }
 
-static inline enum reply hear_by(struct slot *slot, uint16_t counter, uint32_t code, const uint8_t *payload, size_t len)
+/* What a frame that is not plain did; TOLD_NOTHING for a clash. */
+static inline enum told hear_by(struct slot *slot, uint16_t counter, uint32_t code, const uint8_t *payload, size_t len)
 {
     struct message *m = &slot->message;
+    bool confirmed = m->confirmed;
 
     switch (code) {
     case CODE_DATA:
         if (!m->held) {
             hold(m, counter, payload, len);
-        } else if (m->len == len && memcmp(m->bytes, payload, len) == 0) {
-            m->stamp = counter;
-        } else {
-            return CLASH;
+            return TOLD_NEW;
         }
-        break;
+        if (m->len == len && memcmp(m->bytes, payload, len) == 0) {
+            m->stamp = counter;
+            return TOLD_DUPLICATE;
+        }
+        return TOLD_NOTHING;
     case CODE_CONFIRMATION:
         if (m->held) {
             m->confirmed = true;
-        } else {
-            slot->pending.abort = true;
+            return confirmed ? TOLD_CONFIRMED_AGAIN : TOLD_CONFIRMED;
         }
-        break;
-    case CODE_ABORT:
+        slot->pending.abort = true;
+        return TOLD_ABORT_PENDING;
+    default:
         if (m->held) {
             memset(m, 0, sizeof *m);
+            return TOLD_DROPPED;
         }
-        break;
+        return TOLD_NOTHING_TO_DROP;
     }
-    return DONE;
 }
 
+enum fate { KEPT, LATE, DUE };
+
 /* Whether the slot's message is due for delivery now; what is late is dropped, and a sender's hold ends. */
-static inline bool lapse(struct slot *slot, uint16_t counter)
+static inline enum fate lapse(struct slot *slot, uint16_t counter)
 {
     const struct settings *s = &slot->settings;
     struct message *m = &slot->message;
     uint16_t age = (uint16_t)(counter - m->stamp);
 
     if (!m->held) {
-        return false;
+        return KEPT;
     }
     if (s->role == SEND) {
         if (age > s->rd + s->dd) {
@@ -149,33 +164,48 @@ static inline bool lapse(struct slot *slot, uint16_t counter)
             m->held = false;
             m->confirmed = false;
         }
-        return false;
+        return KEPT;
     }
     if (s->class_ == TWO_MESSAGE && !m->confirmed) {
         if (age > s->dc) {
             memset(m, 0, sizeof *m);
             slot->pending.abort = true;
+            return LATE;
         }
-        return false;
+        return KEPT;
     }
-    return age > s->dd;
+    return age > s->dd ? DUE : KEPT;
 }
 
+struct happened {
+    size_t written;
+    uint32_t dropped;
+    uint32_t delivered;
+};
+
 /* Moves the counter and writes the records of what is due, in the order of the slots. */
-static inline size_t tick_all(struct node *node, uint8_t *out)
+static inline struct happened tick_all(struct node *node, uint8_t *out)
 {
-    size_t written = 0;
+    struct happened h = {0, 0, 0};
 
     node->counter++;
     for (size_t i = 0; i < SLOTS; i++) {
         struct slot *slot = &node->slots[i];
 
-        if (lapse(slot, node->counter)) {
-            written += write_record(out + written, slot->stream, slot->message.bytes, slot->message.len);
+        switch (lapse(slot, node->counter)) {
+        case KEPT:
+            break;
+        case LATE:
+            h.dropped++;
+            break;
+        case DUE:
+            h.written += write_record(out + h.written, slot->stream, slot->message.bytes, slot->message.len);
+            h.delivered++;
             memset(&slot->message, 0, sizeof slot->message);
+            break;
         }
     }
-    return written;
+    return h;
 }
 
 static inline enum reply request_by(struct slot *slot, uint16_t counter, const uint8_t *payload, size_t len)

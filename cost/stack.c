@@ -27,7 +27,7 @@ static void call_set_up(void)
 
 static void call_hear(void)
 {
-    Delivered a = hear(LENT(node), number, (uint8_t)length, payload, length, out, sizeof out);
+    Heard a = hear(LENT(node), number, (uint8_t)length, payload, length, out, sizeof out);
 
     BACK(node, a);
     said = (uint32_t)a.reply + (uint32_t)a.written;
@@ -35,7 +35,7 @@ static void call_hear(void)
 
 static void call_tick(void)
 {
-    Delivered a = tick(LENT(node), out, sizeof out);
+    Ticked a = tick(LENT(node), out, sizeof out);
 
     BACK(node, a);
     said = (uint32_t)a.reply + (uint32_t)a.written;

@@ -159,7 +159,7 @@ static Node streams(enum streams which)
 static Node ticked(Node node)
 {
     uint8_t out[512];
-    Delivered a = tick(LENT(node), out, sizeof out);
+    Ticked a = tick(LENT(node), out, sizeof out);
 
     BACK(node, a);
     return node;
@@ -169,7 +169,7 @@ static Node ticked(Node node)
 static Node heard(Node node, uint32_t k)
 {
     uint8_t out[16];
-    Delivered a = hear(LENT(node), stream_of(k) * 4, 8, fixed, 8, out, sizeof out);
+    Heard a = hear(LENT(node), stream_of(k) * 4, 8, fixed, 8, out, sizeof out);
 
     BACK(node, a);
     return node;
@@ -179,7 +179,7 @@ static Node heard(Node node, uint32_t k)
 static Node confirmed(Node node, uint32_t k)
 {
     uint8_t out[16];
-    Delivered a = hear(LENT(node), stream_of(k) * 4 + 1, 0, fixed, 0, out, sizeof out);
+    Heard a = hear(LENT(node), stream_of(k) * 4 + 1, 0, fixed, 0, out, sizeof out);
 
     BACK(node, a);
     return node;
@@ -340,7 +340,7 @@ static uint32_t ended(Node node, uint32_t sum)
 {
     uint8_t out[512] = {0};
     Given given = next_frame(LENT(node), out, sizeof out);
-    Delivered delivered;
+    Ticked delivered;
 
     BACK(node, given);
     delivered = tick(LENT(node), out, sizeof out);
@@ -365,6 +365,9 @@ static uint32_t run(size_t work, uint64_t rounds, uint64_t calls)
         uint32_t reply = 0;
         uint32_t id = 0;
         size_t count = 0;
+        uint32_t told = 0;
+        uint32_t dropped = 0;
+        uint32_t delivered = 0;
         enum call call = works[work].call;
         uint8_t out[512] = {0};
         uint8_t payload[9];
@@ -383,19 +386,22 @@ static uint32_t run(size_t work, uint64_t rounds, uint64_t calls)
         if (i < calls) {
             switch (call) {
             case CALL_HEAR: {
-                Delivered a = hear(LENT(node), asked.number, asked.dlc, payload, asked.len, out, asked.room);
+                Heard a = hear(LENT(node), asked.number, asked.dlc, payload, asked.len, out, asked.room);
 
                 BACK(node, a);
                 reply = a.reply;
                 count = a.written;
+                told = a.told;
                 break;
             }
             case CALL_TICK: {
-                Delivered a = tick(LENT(node), out, asked.room);
+                Ticked a = tick(LENT(node), out, asked.room);
 
                 BACK(node, a);
                 reply = a.reply;
                 count = a.written;
+                dropped = a.dropped;
+                delivered = a.delivered;
                 break;
             }
             case CALL_REQUEST: {
@@ -428,6 +434,9 @@ static uint32_t run(size_t work, uint64_t rounds, uint64_t calls)
         sum = mixed(sum, reply);
         sum = mixed(sum, id);
         sum = mixed(sum, (uint32_t)count);
+        sum = mixed(sum, told);
+        sum = mixed(sum, dropped);
+        sum = mixed(sum, delivered);
         sum = mixed(sum, out[random / 65536 % 16]);
         sum = mixed(sum, out[random / 65536 % 512]);
     }

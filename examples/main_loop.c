@@ -12,6 +12,7 @@ enum { FILES = 5, STATE = 6, TURNS = 60 };
 
 static uint8_t node[KOSMYDORE_NODE_BYTES];
 static uint32_t tally[KOSMYDORE_TALLY_SIZE];
+static uint32_t dropped; /* file numbers that were held and are delivered by no module: a fault to report */
 static bool wanted;
 static uint8_t state;
 
@@ -108,13 +109,18 @@ static bool start(void)
 static void once(struct seen seen)
 {
     uint8_t out[KOSMYDORE_TICK_OUTPUT];
-    if (seen.received || seen.elapsed) {
+    if (seen.received) {
         const size_t bytes = seen.dlc < KOSMYDORE_MAX_PAYLOAD ? seen.dlc : KOSMYDORE_MAX_PAYLOAD;
-        const struct kosmydore_written heard = seen.received
-            ? kosmydore_module_hear(node, sizeof node, seen.id, seen.dlc, seen.bytes, bytes, out, sizeof out,
-                                    tally, KOSMYDORE_TALLY_SIZE)
-            : kosmydore_module_tick(node, sizeof node, out, sizeof out, tally, KOSMYDORE_TALLY_SIZE);
+        const struct kosmydore_module_heard heard =
+            kosmydore_module_hear(node, sizeof node, seen.id, seen.dlc, seen.bytes, bytes, out, sizeof out,
+                                  tally, KOSMYDORE_TALLY_SIZE);
         deliver(out, heard.written);
+        dropped += heard.told == KOSMYDORE_TOLD_DROPPED;
+    } else if (seen.elapsed) {
+        const struct kosmydore_module_ticked ticked =
+            kosmydore_module_tick(node, sizeof node, out, sizeof out, tally, KOSMYDORE_TALLY_SIZE);
+        deliver(out, ticked.written);
+        dropped += ticked.dropped;
     }
     if (seen.wanted) {
         state = seen.state;
@@ -138,5 +144,5 @@ int main(void)
     for (int turn = 0; turn < TURNS; turn++)
         once(look(turn));
     counted();
-    return 0;
+    return dropped == 1 ? 0 : 1; /* of the script, the file number that is never confirmed */
 }

@@ -24,8 +24,8 @@
 #define KOSMYDORE_H
 
 /* The version, as the file VERSION and `./kosmydore --version` have it. */
-#define KOSMYDORE_VERSION "5.0.0"
-#define KOSMYDORE_VERSION_MAJOR 5
+#define KOSMYDORE_VERSION "6.0.0"
+#define KOSMYDORE_VERSION_MAJOR 6
 #define KOSMYDORE_VERSION_MINOR 0
 #define KOSMYDORE_VERSION_PATCH 0
 
@@ -51,13 +51,39 @@ extern "C" {
 #define KOSMYDORE_BAD_LENGTH UINT32_C(10)
 #define KOSMYDORE_SHORT_OUTPUT UINT32_C(11)
 #define KOSMYDORE_NOTHING UINT32_C(12)
+#define KOSMYDORE_IDENTIFIER_TOO_BIG UINT32_C(18)
+#define KOSMYDORE_DLC_TOO_BIG UINT32_C(19)
+#define KOSMYDORE_PAYLOAD_LENGTH UINT32_C(20)
+#define KOSMYDORE_UNWANTED_PAYLOAD UINT32_C(21)
 
 /*
  * A tally: how many replies of the node's calls are counted, and their numbers in the tally's order.
  * Reply numbers need not follow each other without a gap: do not take a number for a place.
  */
-#define KOSMYDORE_TALLY_SIZE 13
-#define KOSMYDORE_TALLY_NUMBERS {0, 1, 2, 3, 4, 5, 6, 7, 8, 9, 10, 11, 12}
+#define KOSMYDORE_TALLY_SIZE 17
+#define KOSMYDORE_TALLY_NUMBERS {0, 1, 2, 3, 4, 5, 6, 7, 8, 9, 10, 11, 12, 18, 19, 20, 21}
+
+/*
+ * What a frame did that was heard, told with the reply; docs/INTEGRATION.md says what to do with it. With
+ * any reply but KOSMYDORE_DONE nothing is told.
+ *   KOSMYDORE_TOLD_NEW               data: it is held from now on;
+ *   KOSMYDORE_TOLD_DUPLICATE         data: it is held already;
+ *   KOSMYDORE_TOLD_CONFIRMED         a confirmation: what is held is confirmed now;
+ *   KOSMYDORE_TOLD_CONFIRMED_AGAIN   a confirmation: what is held was confirmed already;
+ *   KOSMYDORE_TOLD_ABORT_PENDING     a confirmation: nothing was held, and an abort is pending now, or was already;
+ *   KOSMYDORE_TOLD_DROPPED           an abort: what was held is dropped, confirmed or not;
+ *   KOSMYDORE_TOLD_NOTHING_TO_DROP   an abort: nothing was held;
+ *   KOSMYDORE_TOLD_DELIVERED         a plain frame: its record is in the output.
+ */
+#define KOSMYDORE_TOLD_NOTHING UINT32_C(0)
+#define KOSMYDORE_TOLD_NEW UINT32_C(1)
+#define KOSMYDORE_TOLD_DUPLICATE UINT32_C(2)
+#define KOSMYDORE_TOLD_CONFIRMED UINT32_C(3)
+#define KOSMYDORE_TOLD_CONFIRMED_AGAIN UINT32_C(4)
+#define KOSMYDORE_TOLD_ABORT_PENDING UINT32_C(5)
+#define KOSMYDORE_TOLD_DROPPED UINT32_C(6)
+#define KOSMYDORE_TOLD_NOTHING_TO_DROP UINT32_C(7)
+#define KOSMYDORE_TOLD_DELIVERED UINT32_C(8)
 
 /* Roles. */
 #define KOSMYDORE_RECEIVE 0
@@ -173,9 +199,22 @@ struct kosmydore_settings {
  * overlap.
  */
 
-/* What hear and tick answer: how many bytes of the output were written. */
-struct kosmydore_written {
+/* What hear answers: what the frame did, and how many bytes of the output were written. */
+struct kosmydore_module_heard {
     uint32_t reply;
+    uint32_t told;
+    size_t written;
+};
+
+/*
+ * What tick answers: how many messages it dropped, since no confirmation had come, how many it delivered,
+ * and how many bytes of the output were written. With any reply but KOSMYDORE_DONE they are 0. The end of
+ * a sender's hold is neither a drop nor a delivery.
+ */
+struct kosmydore_module_ticked {
+    uint32_t reply;
+    uint32_t dropped;
+    uint32_t delivered;
     size_t written;
 };
 
@@ -197,14 +236,15 @@ uint32_t kosmydore_module_set_up(uint8_t *node, size_t node_length, uint32_t str
  * Takes in a frame that the controller received, with the DLC and the payload that kosmydore_hear
  * takes; the output holds KOSMYDORE_HEAR_OUTPUT bytes or more.
  */
-struct kosmydore_written kosmydore_module_hear(uint8_t *node, size_t node_length, uint32_t id, uint32_t dlc,
-                                               const uint8_t *payload, size_t payload_length,
-                                               uint8_t *output, size_t output_length,
-                                               uint32_t *tally, size_t tally_length);
+struct kosmydore_module_heard kosmydore_module_hear(uint8_t *node, size_t node_length, uint32_t id, uint32_t dlc,
+                                                    const uint8_t *payload, size_t payload_length,
+                                                    uint8_t *output, size_t output_length,
+                                                    uint32_t *tally, size_t tally_length);
 
 /* Moves the counter by one; the output holds KOSMYDORE_TICK_OUTPUT bytes or more. */
-struct kosmydore_written kosmydore_module_tick(uint8_t *node, size_t node_length, uint8_t *output, size_t output_length,
-                                               uint32_t *tally, size_t tally_length);
+struct kosmydore_module_ticked kosmydore_module_tick(uint8_t *node, size_t node_length,
+                                                     uint8_t *output, size_t output_length,
+                                                     uint32_t *tally, size_t tally_length);
 
 /* Takes a message to send on one of the node's own streams. */
 uint32_t kosmydore_module_request(uint8_t *node, size_t node_length, uint32_t stream, const uint8_t *payload,
@@ -275,10 +315,20 @@ struct kosmydore_answered {
     uint32_t reply;
 };
 
-/* What hear and tick answer: how many bytes of the output were written. */
-struct kosmydore_delivered {
+/* What hear answers, as struct kosmydore_module_heard has it. */
+struct kosmydore_heard {
     struct kosmydore_node node;
     uint32_t reply;
+    uint32_t told;
+    size_t written;
+};
+
+/* What tick answers, as struct kosmydore_module_ticked has it. */
+struct kosmydore_ticked {
+    struct kosmydore_node node;
+    uint32_t reply;
+    uint32_t dropped;
+    uint32_t delivered;
     size_t written;
 };
 
@@ -302,16 +352,19 @@ struct kosmydore_answered kosmydore_set_up(struct kosmydore_node node, uint32_t 
  * more. A payload or an output is the address of its first byte and its length; the two do not
  * overlap. An address is not null, also where the length is 0.
  *
- * The DLC is the one on the bus, at most KOSMYDORE_MAX_DLC, and the payload has the bytes that it
- * means: as many as it says up to 8, and 8 from 9 to 15. Anything else is answered by
- * KOSMYDORE_BAD_FRAME, and so is a confirmation or an abort whose DLC is not 0.
+ * The DLC is the one on the bus, and the payload has the bytes that it means: as many as it says up
+ * to 8, and 8 from 9 to 15. A frame at fault is answered by the first of
+ *   KOSMYDORE_IDENTIFIER_TOO_BIG   the identifier is above KOSMYDORE_MAX_BUS_ID;
+ *   KOSMYDORE_DLC_TOO_BIG          the DLC is above KOSMYDORE_MAX_DLC;
+ *   KOSMYDORE_PAYLOAD_LENGTH       the payload has not the bytes that the DLC means;
+ *   KOSMYDORE_UNWANTED_PAYLOAD     a confirmation or an abort whose DLC is not 0.
  */
-struct kosmydore_delivered kosmydore_hear(struct kosmydore_node node, uint32_t id, uint32_t dlc,
-                                          const uint8_t *payload, size_t payload_length,
-                                          uint8_t *output, size_t output_length);
+struct kosmydore_heard kosmydore_hear(struct kosmydore_node node, uint32_t id, uint32_t dlc,
+                                      const uint8_t *payload, size_t payload_length,
+                                      uint8_t *output, size_t output_length);
 
 /* Moves the counter by one; the output holds KOSMYDORE_TICK_OUTPUT bytes or more. */
-struct kosmydore_delivered kosmydore_tick(struct kosmydore_node node, uint8_t *output, size_t output_length);
+struct kosmydore_ticked kosmydore_tick(struct kosmydore_node node, uint8_t *output, size_t output_length);
 
 /* Takes a message to send on one of the node's own streams. */
 struct kosmydore_answered kosmydore_request(struct kosmydore_node node, uint32_t stream,

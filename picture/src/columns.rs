@@ -130,6 +130,6 @@ fn slot(scene: &Scene, moments: &[&Moment]) -> Slot {
     let note = moments.iter().find_map(|moment| moment.note);
     let least = if note.is_some() { NOTE_HALF } else { 0 };
     let bounds = figure.bounds();
-    let settled = moments.iter().all(|moment| matches!(moment.seen, Seen::Deliveries(_) | Seen::Drops { .. }));
+    let settled = moments.iter().all(|moment| matches!(moment.seen, Seen::Deliveries(_) | Seen::Drops(_)));
     Slot { figure, left: bounds.left.max(least), right: bounds.right.max(least), note, settled }
 }

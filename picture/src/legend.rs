@@ -56,13 +56,13 @@ fn entries() -> Vec<Entry> {
         link("sending full", true, "sent in full, to every other live module"),
         link("sending short", false, "sent short: some or all miss it"),
         entry("unsent", "", unsent, "not sent, since its module is dead"),
-        entry("heard taken", "data", arrow(true), "heard, reply 0"),
+        entry("heard taken", "data", arrow(true), "heard, reply 0, and what it did"),
         entry("heard refused", "data", arrow(false), "heard and refused, and the reply"),
         entry("heard other", "data", Shape::Ring, "heard, not a stream it receives (reply 5)"),
         entry("missed own", "missed", Shape::Cross { small: false }, "missed"),
         entry("missed other", "missed", Shape::Cross { small: true }, "missed, not a stream it receives"),
         entry("delivery", "delivery", record(false), "delivered"),
-        entry("drop", "drop", record(true), "dropped by now: data heard, and not delivered by the window's end"),
+        entry("drop", "drop", record(true), "dropped, at a tick or by an abort"),
         entry("death", "", Shape::End, "the module dies, and its lane ends"),
         Entry { of: "window", colour: "", sample: Sample::Shade, says: "window of a 2M request: Rd + dd + 1 ticks" },
         Entry { of: "fold", colour: "", sample: Sample::Fold, says: "ticks without anything to see, folded" },
@@ -118,8 +118,8 @@ pub fn draw(svg: &mut Svg, scene: &Scene, rows: &[Row], (left, top): (i32, i32),
 fn closing(scene: &Scene) -> Vec<&'static str> {
     let letters = "D data, C confirmation, A abort, P plain. A single number above a frame is its stream.";
     let aborts =
-        "A module gives out an abort when it has dropped a message, or heard a confirmation and held nothing; \
-                  who hears one drops what it holds.";
+        "A module gives out an abort when it has dropped a message at a tick, or heard a confirmation and held \
+                  nothing; who hears one drops what it holds.";
     let windows = "At a window's end: all, if every live receiver has delivered the message once; none, if none has; \
                    else differs, with the bench rule that the history breaks; open, if the history ends before.";
     let has_aborts = scene.frames.iter().any(|frame| frame.code == Code::Abort);

@@ -5,6 +5,7 @@ pub mod captions;
 pub mod columns;
 pub mod draw;
 pub mod head;
+pub mod held;
 pub mod lanes;
 pub mod legend;
 pub mod letters;

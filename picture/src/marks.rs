@@ -2,6 +2,7 @@
 
 use second::ident::Code;
 
+use crate::held::Dropped;
 use crate::scene::{Frame, Moment, Scene, Seen};
 use crate::sendings;
 use crate::shapes::{half_width, Bounds, Piece, Shape, BESIDE};
@@ -92,8 +93,29 @@ fn label(tag: &Tag, right: i32, anchor: Anchor) -> Piece {
     Piece { right, shape: Shape::Label { lines: tag.lines(), anchor } }
 }
 
-pub fn record(tag: &Tag, dropped: bool) -> Shape {
-    Shape::Record { lines: tag.lines(), dropped }
+pub fn record(tag: &Tag) -> Shape {
+    Shape::Record { lines: tag.lines(), dropped: false }
+}
+
+/// What was dropped; with no name where it is one of several, and the answers do not tell which.
+pub fn dropped_record(dropped: &Dropped) -> Shape {
+    let lines = match dropped.is_named() {
+        true => dropped.among.iter().flat_map(Tag::lines).collect(),
+        false => vec!["?".to_string()],
+    };
+    Shape::Record { lines, dropped: true }
+}
+
+/// What is said of a drop.
+pub fn dropped_text(scene: &Scene, dropped: &Dropped) -> String {
+    let names: Vec<String> = dropped.among.iter().map(Tag::text).collect();
+    let messages = if dropped.number == 1 { "message" } else { "messages" };
+    let which = match (dropped.is_named(), names.is_empty()) {
+        (true, _) => format!(": {}", names.join(", ")),
+        (false, true) => String::new(),
+        (false, false) => format!(" of {}", names.join(", ")),
+    };
+    format!("{} drops {} {messages}{which}", scene.name(dropped.module), dropped.number)
 }
 
 /// Where a moment stands in the way of a frame, and the module and message it is about.
@@ -171,15 +193,18 @@ fn put(scene: &Scene, moment: &Moment, right: i32, figure: &mut Figure) {
             for delivery in deliveries {
                 let tag = Tag::message(delivery.stream.0, &delivery.payload);
                 let title = format!("{} delivers {}", scene.name(delivery.module), tag.text());
-                mark(delivery.module, "delivery", title, vec![Piece::here(record(&tag, false))]);
+                mark(delivery.module, "delivery", title, vec![Piece::here(record(&tag))]);
             }
         }
-        Seen::Drops { tag, modules } => {
-            for module in modules {
-                let title = format!("{} heard {} and did not deliver it", scene.name(*module), tag.text());
-                let record = record(tag, true);
-                let word = record.reply("dropped");
-                mark(*module, "drop", title, vec![Piece::here(record), Piece::here(word)]);
+        Seen::Drops(drops) => {
+            for dropped in drops {
+                let record = dropped_record(dropped);
+                let word = record.reply(match dropped.number {
+                    1 => "dropped".to_string(),
+                    number => format!("{number} dropped"),
+                });
+                let pieces = vec![Piece::here(record), Piece::here(word)];
+                mark(dropped.module, "drop", dropped_text(scene, dropped), pieces);
             }
         }
         Seen::Request { module, tag, refused: None } => {
@@ -206,9 +231,7 @@ fn put(scene: &Scene, moment: &Moment, right: i32, figure: &mut Figure) {
             let reply = pill.reply(*says);
             mark(*module, "nothing", title, vec![Piece::here(pill), Piece::here(reply)]);
         }
-        Seen::Sending { frame, full, heard, missed } => {
-            sendings::put(scene, moment, (*frame, *full), (heard, missed), figure);
-        }
+        Seen::Sending { .. } => sendings::put(scene, moment, figure),
         Seen::NoSending { frame: number } => {
             let frame = &scene.frames[*number];
             let pill = Shape::Pill { text: pill_text(frame, *number), solid: false, broken: true };

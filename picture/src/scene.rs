@@ -1,8 +1,8 @@
 //! What there is to see in a history: its modules, streams, frames and windows, and what was answered, moment by moment.
 
-use std::collections::BTreeMap;
+use std::collections::{BTreeMap, BTreeSet};
 
-use second::bench::{Delivery, Hearing, Outcome};
+use second::bench::{Delivery, Drops, Hearing, Outcome};
 use second::history::{Event, Hearers};
 use second::ident::Code;
 use second::judge::Judgement;
@@ -11,6 +11,7 @@ use second::reply::Reply;
 use second::settings::Asked;
 
 use crate::captions::Caption;
+use crate::held::{Dropped, Holdings};
 use crate::reading::{Told, What};
 use crate::tag::Tag;
 use crate::windows::{self, Window};
@@ -43,13 +44,10 @@ pub struct Frame {
 /// What one line did, or one tick of it.
 #[derive(Clone, Debug, PartialEq, Eq)]
 pub enum Seen {
+    /// What modules dropped at one tick.
+    Drops(Vec<Dropped>),
     /// Deliveries of one tick, at most one of each module.
     Deliveries(Vec<Delivery>),
-    /// At a window's end: the live receivers that heard the data and did not deliver it.
-    Drops {
-        tag: Tag,
-        modules: Vec<usize>,
-    },
     /// A request; `refused` says why it was not taken.
     Request {
         module: usize,
@@ -68,6 +66,8 @@ pub enum Seen {
         frame: usize,
         full: bool,
         heard: Vec<Hearing>,
+        /// What the frame made its hearers drop.
+        dropped: Vec<Dropped>,
         missed: Vec<usize>,
     },
     /// A sending of a dead module's frame, which is none.
@@ -115,6 +115,7 @@ impl Scene {
     pub fn of(told: &[Told], judgement: &Judgement) -> Scene {
         let broken = judgement.findings.iter().map(ToString::to_string).collect();
         let mut scene = Scene { broken, ..Scene::default() };
+        let mut holdings = Holdings::default();
         let mut names: BTreeMap<usize, &str> = BTreeMap::new();
         let mut waiting: Vec<&str> = Vec::new();
         for Told { line, what } in told {
@@ -138,7 +139,7 @@ impl Scene {
                     if matches!(event, Event::Tick | Event::Ticks(_)) {
                         scene.remark(*line, &mut waiting);
                     }
-                    for (tick, seen) in scene.seen(event, outcome) {
+                    for (tick, seen) in scene.seen(event, outcome, &mut holdings) {
                         let note = scene.noted(&mut waiting);
                         scene.moments.push(Moment { line: *line, tick, seen, note });
                     }
@@ -151,8 +152,7 @@ impl Scene {
                 *place = name.to_string();
             }
         }
-        scene.windows = windows::windows(&scene, judgement);
-        scene.put_drops();
+        scene.windows = windows::windows(judgement);
         scene
     }
 
@@ -174,11 +174,11 @@ impl Scene {
     }
 
     /// What an event's answer shows, with the ticks.
-    fn seen(&mut self, event: &Event, outcome: &Outcome) -> Vec<(u64, Seen)> {
+    fn seen(&mut self, event: &Event, outcome: &Outcome, holdings: &mut Holdings) -> Vec<(u64, Seen)> {
         let seen = match (event, outcome) {
-            (_, Outcome::Ticked { count, delivered }) => {
+            (_, Outcome::Ticked { count, dropped, delivered }) => {
                 self.end = *count;
-                return by_tick(delivered);
+                return self.by_tick(dropped, delivered, holdings);
             }
             (Event::Request { module, stream, payload }, outcome) => Seen::Request {
                 module: *module,
@@ -199,12 +199,15 @@ impl Scene {
             (Event::Give { module }, Outcome::Dead) => Seen::GiveNothing { module: *module, says: "dead" },
             (Event::Give { module }, _) => Seen::GiveNothing { module: *module, says: "nothing" },
             (Event::Send { frame, hearers }, Outcome::Heard(heard)) => {
-                let owner = self.frames[*frame].owner;
+                let Frame { owner, tag, .. } = &self.frames[*frame];
+                let owner = *owner;
+                let dropped = heard.iter().filter_map(|hearing| holdings.hear(tag, hearing)).collect();
                 let hears = |module: usize| heard.iter().any(|hearing| hearing.module == module);
                 let missed = (0..self.names.len())
                     .filter(|module| *module != owner && self.deaths[*module].is_none() && !hears(*module))
                     .collect();
-                Seen::Sending { frame: *frame, full: *hearers == Hearers::Full, heard: heard.clone(), missed }
+                let full = *hearers == Hearers::Full;
+                Seen::Sending { frame: *frame, full, heard: heard.clone(), dropped, missed }
             }
             (Event::Send { frame, .. }, _) => Seen::NoSending { frame: *frame },
             (Event::Death { module }, _) if self.deaths[*module].is_some() => return Vec::new(),
@@ -250,30 +253,36 @@ impl Scene {
         rows
     }
 
-    /// Puts what was dropped where its window ends: after that tick's deliveries, before anything else.
-    fn put_drops(&mut self) {
-        for window in &self.windows {
-            if window.drops.is_empty() {
-                continue;
-            }
-            let settled = |moment: &Moment| matches!(moment.seen, Seen::Deliveries(_) | Seen::Drops { .. });
-            let before =
-                |moment: &Moment| moment.tick < window.until || (moment.tick == window.until && settled(moment));
-            let at = self.moments.iter().position(|moment| !before(moment)).unwrap_or(self.moments.len());
-            let seen = Seen::Drops { tag: window.tag.clone(), modules: window.drops.clone() };
-            self.moments.insert(at, Moment { line: window.line, tick: window.until, seen, note: None });
-        }
+    /// Whether a module's stream is of a class that confirms: 2M.
+    fn confirms(&self, module: usize, stream: u32) -> bool {
+        self.set_ups.iter().any(|(at, asked)| *at == module && asked.stream == stream && asked.class == 2)
     }
-}
 
-/// Deliveries of one or many ticks in turn; a module's second of a tick comes after everyone's first.
-fn by_tick(delivered: &[Delivery]) -> Vec<(u64, Seen)> {
-    let mut turns: BTreeMap<(u64, usize), Vec<Delivery>> = BTreeMap::new();
-    let mut before: BTreeMap<(u64, usize), usize> = BTreeMap::new();
-    for delivery in delivered {
-        let turn = before.entry((delivery.tick, delivery.module)).or_default();
-        turns.entry((delivery.tick, *turn)).or_default().push(delivery.clone());
-        *turn += 1;
+    /// Drops and deliveries of one or many ticks in turn; a module's second delivery of a tick comes after everyone's first.
+    fn by_tick(&self, dropped: &[Drops], delivered: &[Delivery], holdings: &mut Holdings) -> Vec<(u64, Seen)> {
+        let mut drops: BTreeMap<u64, Vec<&Drops>> = BTreeMap::new();
+        dropped.iter().for_each(|each| drops.entry(each.tick).or_default().push(each));
+        let mut deliveries: BTreeMap<u64, Vec<Vec<Delivery>>> = BTreeMap::new();
+        for delivery in delivered {
+            let turns = deliveries.entry(delivery.tick).or_default();
+            let has = |turn: &Vec<Delivery>| turn.iter().any(|other| other.module == delivery.module);
+            match turns.iter_mut().find(|turn| !has(turn)) {
+                Some(turn) => turn.push(delivery.clone()),
+                None => turns.push(vec![delivery.clone()]),
+            }
+        }
+        let ticks: BTreeSet<u64> = drops.keys().chain(deliveries.keys()).copied().collect();
+        let mut seen = Vec::new();
+        for tick in ticks {
+            let drop = |each: &&Drops| holdings.drop(each, |stream| self.confirms(each.module, stream));
+            if let Some(drops) = drops.get(&tick) {
+                seen.push((tick, Seen::Drops(drops.iter().map(drop).collect())));
+            }
+            for turn in deliveries.remove(&tick).unwrap_or_default() {
+                turn.iter().for_each(|delivery| holdings.deliver(delivery));
+                seen.push((tick, Seen::Deliveries(turn)));
+            }
+        }
+        seen
     }
-    turns.into_iter().map(|((tick, _), delivered)| (tick, Seen::Deliveries(delivered))).collect()
 }

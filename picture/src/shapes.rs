@@ -14,6 +14,10 @@ const CLEAR: i32 = 4;
 /// From the line of a sending to a text beside it.
 pub const BESIDE: i32 = 6;
 const ARROW: i32 = 9;
+const BESIDE_ARROW: i32 = 10;
+/// How far below its lane a text beside a sending's line begins, and how long it is in one line.
+const BESIDE_BELOW: i32 = 2;
+const BESIDE_MOST: usize = 11;
 
 /// How far something reaches from its place.
 #[derive(Clone, Copy, Debug, Default, PartialEq, Eq)]
@@ -61,8 +65,8 @@ pub enum Shape {
     End,
     /// What stands above a mark.
     Label { lines: Vec<String>, anchor: Anchor },
-    /// What stands below a mark that reaches so far below the lane; `beside` a line that goes on there.
-    Reply { text: String, below: i32, beside: bool },
+    /// What stands below a mark that reaches so far below the lane; so far `beside` a line that goes on there.
+    Reply { lines: Vec<String>, below: i32, beside: Option<i32> },
 }
 
 /// A shape so far to the right of its mark's place.
@@ -104,12 +108,17 @@ fn half_record(lines: &[String]) -> (i32, i32) {
 impl Shape {
     /// A text below this shape.
     pub fn reply(&self, text: impl Into<String>) -> Shape {
-        Shape::Reply { text: text.into(), below: self.bounds().below, beside: false }
+        Shape::Reply { lines: vec![text.into()], below: self.bounds().below, beside: None }
     }
 
-    /// A text at a hearer's lane, beside the line of the sending.
-    pub fn beside(text: String) -> Shape {
-        Shape::Reply { text, below: HALF, beside: true }
+    /// A text at a hearer's lane, beside the line of the sending, or beside its arrow if that comes from below, and below
+    /// a record that reaches so far. The first word of a long one has a line of its own.
+    pub fn beside(text: &str, down: bool, room: i32) -> Shape {
+        let lines = match text.split_once(' ') {
+            Some((first, rest)) if text.len() > BESIDE_MOST => vec![first.to_string(), rest.to_string()],
+            _ => vec![text.to_string()],
+        };
+        Shape::Reply { lines, below: room.max(BESIDE_BELOW), beside: Some(if down { BESIDE } else { BESIDE_ARROW }) }
     }
 
     fn bounds(&self) -> Bounds {
@@ -137,10 +146,11 @@ impl Shape {
                 };
                 Bounds { left, right, above: HALF + CLEAR + lines.len() as i32 * LINE, below: 0 }
             }
-            Shape::Reply { text, below, beside } => {
-                let width = width_of(text, SMALL_LETTER);
-                let (left, right) = if *beside { (0, BESIDE + width) } else { ((width + 1) / 2, (width + 1) / 2) };
-                Bounds { left, right, above: 0, below: below + CLEAR + SMALL_LETTER }
+            Shape::Reply { lines, below, beside } => {
+                let width = lines.iter().map(|line| width_of(line, SMALL_LETTER)).max().unwrap_or(0);
+                let half = (width + 1) / 2;
+                let (left, right) = beside.map_or((half, half), |beside| (0, beside + width));
+                Bounds { left, right, above: 0, below: below + CLEAR + lines.len() as i32 * SMALL_LETTER }
             }
         }
     }
@@ -192,9 +202,11 @@ impl Shape {
                     svg.text("p", (x, y - HALF - CLEAR - at as i32 * LINE), *anchor, line);
                 }
             }
-            Shape::Reply { text, below, beside } => {
-                let (right, anchor) = if *beside { (BESIDE, Anchor::Start) } else { (0, Anchor::Middle) };
-                svg.text("r", (x + right, y + below + SMALL_LETTER), anchor, text);
+            Shape::Reply { lines, below, beside } => {
+                let (right, anchor) = beside.map_or((0, Anchor::Middle), |beside| (beside, Anchor::Start));
+                for (at, line) in lines.iter().enumerate() {
+                    svg.text("r", (x + right, y + below + (at as i32 + 1) * SMALL_LETTER), anchor, line);
+                }
             }
         }
     }

@@ -1,6 +1,7 @@
 //! Histories answered by the second implementation, and what the picture makes of them.
 
 use picture::columns::{columns, Column};
+use picture::marks::dropped_text;
 use picture::picture;
 use picture::rows::{rows, Cell, Row};
 use picture::scene::{Scene, Seen};
@@ -22,8 +23,23 @@ fn scene(events: &str) -> Scene {
     picture::scene(history.as_bytes(), &answers(&history)).expect("a history that can be read")
 }
 
-fn ends(events: &str) -> Vec<(End, Vec<usize>)> {
-    scene(events).windows.iter().map(|window| (window.end, window.drops.clone())).collect()
+fn ends(events: &str) -> Vec<End> {
+    scene(events).windows.iter().map(|window| window.end).collect()
+}
+
+/// What was dropped, in the words of its marks, with the ticks.
+fn drops(scene: &Scene) -> Vec<(u64, String)> {
+    let dropped = |seen: &Seen| match seen {
+        Seen::Drops(dropped) | Seen::Sending { dropped, .. } => dropped.clone(),
+        _ => Vec::new(),
+    };
+    let all = scene.moments.iter().flat_map(|moment| dropped(&moment.seen).into_iter().map(|each| (moment.tick, each)));
+    all.map(|(tick, dropped)| (tick, dropped_text(scene, &dropped))).collect()
+}
+
+fn drawn(events: &str) -> String {
+    let history = format!("{SET_UP}{events}");
+    picture("history", history.as_bytes(), &answers(&history)).expect("a picture")
 }
 
 fn troubles(history: &str, answers: &[String]) -> Vec<Trouble> {
@@ -33,23 +49,87 @@ fn troubles(history: &str, answers: &[String]) -> Vec<Trouble> {
 #[test]
 fn how_windows_end() {
     let full = "request 0 5 07\ngive 0\nfull 0\ngive 0\nfull 1\n";
-    assert_eq!(ends(&format!("{full}ticks 9\n")), [(End::All, vec![])]);
-    assert_eq!(ends(&format!("{full}ticks 8\n")), [(End::Open, vec![])]);
+    assert_eq!(ends(&format!("{full}ticks 9\n")), [End::All]);
+    assert_eq!(ends(&format!("{full}ticks 8\n")), [End::Open]);
     let unconfirmed = "request 0 5 07\ngive 0\nfull 0\nticks 9\n";
-    assert_eq!(ends(unconfirmed), [(End::None, vec![1, 2])]);
+    assert_eq!(ends(unconfirmed), [End::None]);
     let short = "request 0 5 07\ngive 0\nshort 0 1\ngive 0\nshort 1 1\nticks 9\n";
-    assert_eq!(ends(short), [(End::Differs, vec![])]);
+    assert_eq!(ends(short), [End::Differs]);
     let half_confirmed = "request 0 5 07\ngive 0\nfull 0\ngive 0\nshort 1 1\nticks 9\n";
-    assert_eq!(ends(half_confirmed), [(End::Differs, vec![2])]);
+    assert_eq!(ends(half_confirmed), [End::Differs]);
+}
+
+#[test]
+fn drops_stand_where_they_happen() {
+    let due = |due: &[(u64, &str)]| -> Vec<(u64, String)> {
+        due.iter().map(|(tick, says)| (*tick, says.to_string())).collect()
+    };
+    let of_one = |module: usize, tag: &str| format!("module {module} drops 1 message: {tag}");
+    let (one, two) = (of_one(1, "5:07"), of_one(2, "5:07"));
+    let unconfirmed = "tick\nrequest 0 5 07\ngive 0\nfull 0\n";
+    // By one line or by many, and not before.
+    assert_eq!(drops(&scene(&format!("{unconfirmed}ticks 3\n"))), []);
+    assert_eq!(drops(&scene(&format!("{unconfirmed}ticks 9\n"))), due(&[(5, &one), (5, &two)]));
+    assert_eq!(drops(&scene(&format!("{unconfirmed}{}", "tick\n".repeat(9)))), due(&[(5, &one), (5, &two)]));
+    // By an abort; what is confirmed is not dropped by a tick.
+    let half_confirmed = "request 0 5 07\ngive 0\nfull 0\ngive 0\nshort 1 1\nticks 5\ngive 2\nfull 2\nticks 9\n";
+    assert_eq!(drops(&scene(half_confirmed)), due(&[(4, &two), (5, &one)]));
+    // The next message of the stream has its own name.
+    let again = "ticks 9\nrequest 0 5 08\ngive 0\ngive 0\ngive 0\nfull 1\nticks 4\n";
+    let (three, four) = (of_one(1, "5:08"), of_one(2, "5:08"));
+    let both = format!("request 0 5 07\ngive 0\ngive 0\nfull 0\nticks 4\n{}", again.replace("full 1", "full 2"));
+    assert_eq!(drops(&scene(&both)), due(&[(4, &one), (4, &two), (17, &three), (17, &four)]));
+}
+
+/// Where a module drops some of what it holds, and the answers do not tell which, the mark does not name it.
+#[test]
+fn drops_of_several() {
+    let of = |delays: &str| {
+        let stream = |module: usize, role: u8| format!("setup {module} 6 {role} 2 {delays}\n");
+        let asked = "request 0 5 07\nrequest 0 6 08\ngive 0\ngive 0\ngive 0\nshort 0 1\nshort 2 1\nticks 9\n";
+        format!("{}{}{asked}", stream(0, 1), stream(1, 0))
+    };
+    let says = |events: &str| -> Vec<String> { drops(&scene(events)).into_iter().map(|(_, says)| says).collect() };
+    let together = of("2 3 2 6");
+    assert_eq!(says(&together), ["module 1 drops 2 messages: 5:07, 6:08"]);
+    let svg = drawn(&together);
+    assert_eq!((svg.matches("<g class=\"mark drop\">").count(), svg.matches(">2 dropped<").count()), (1, 1));
+    let apart = of("2 5 2 8");
+    assert_eq!(says(&apart), ["module 1 drops 1 message of 5:07, 6:08"; 2]);
+    assert_eq!(drawn(&apart).matches(">?<").count(), 2);
+}
+
+/// A mark says what its frame did, and so does its title.
+#[test]
+fn what_frames_did() {
+    let events =
+        "request 0 5 07\ngive 0\nshort 0 1\nfull 0\ngive 0\nshort 1 1\nfull 1\nticks 7\nfull 1\ngive 1\nfull 2\n";
+    let svg = drawn(events);
+    for (says, word, times) in [
+        ("module 1 hears frame 0, data 5:07: 0 Done, duplicate", "duplicate", 1),
+        ("module 2 hears frame 0, data 5:07: 0 Done, new", "new", 2),
+        ("module 2 hears frame 1, confirmation 5: 0 Done, confirmed", "confirmed", 3),
+        ("module 1 hears frame 1, confirmation 5: 0 Done, confirmed again", "again", 1),
+        ("module 1 hears frame 1, confirmation 5: 0 Done, abort pending", "pending", 2),
+        ("module 2 hears frame 2, abort 5: 0 Done, nothing to drop", "to drop", 1),
+    ] {
+        assert!(svg.contains(&format!(": {says}</title>")), "{says}");
+        assert_eq!(svg.matches(&format!(">{word}</text>")).count(), times, "{word}");
+    }
+    let history = "modules 2\nsetup 0 7 1 0 0 0 0 0\nsetup 1 7 0 0 0 0 0 0\nrequest 0 7 0a\ngive 0\nfull 0\n";
+    let svg = picture("history", history.as_bytes(), &answers(history)).expect("a picture");
+    assert!(
+        svg.contains(": module 1 hears frame 0, plain 7:0a: 0 Done, delivered</title>") && svg.contains(">delivered<")
+    );
 }
 
 #[test]
 fn the_dead_are_not_asked() {
     let short = "request 0 5 07\ngive 0\nshort 0 1\ngive 0\nshort 1 1\n";
-    assert_eq!(ends(&format!("{short}death 2\nticks 9\n")), [(End::All, vec![])]);
-    assert_eq!(ends(&format!("{short}ticks 8\ndeath 2\ntick\n")), [(End::All, vec![])]);
-    assert_eq!(ends(&format!("{short}ticks 9\ndeath 2\n")), [(End::Differs, vec![])]);
-    assert_eq!(ends(&format!("{short}death 1\ndeath 2\nticks 9\n")), [(End::None, vec![])]);
+    assert_eq!(ends(&format!("{short}death 2\nticks 9\n")), [End::All]);
+    assert_eq!(ends(&format!("{short}ticks 8\ndeath 2\ntick\n")), [End::All]);
+    assert_eq!(ends(&format!("{short}ticks 9\ndeath 2\n")), [End::Differs]);
+    assert_eq!(ends(&format!("{short}death 1\ndeath 2\nticks 9\n")), [End::None]);
 }
 
 #[test]
@@ -158,10 +238,6 @@ fn a_note_stands_where_it_was_written() {
 /// A history that breaks a rule says so beside what differs, and in the head.
 #[test]
 fn the_verdict_on_the_rules() {
-    let drawn = |events: &str| {
-        let history = format!("{SET_UP}{events}");
-        picture("history", history.as_bytes(), &answers(&history)).expect("a picture")
-    };
     let kept = drawn("request 0 5 07\ngive 0\nfull 0\ngive 0\nfull 1\nticks 9\n");
     assert!(kept.contains(">The history keeps the bench rules.<") && !kept.contains("breaks rule"));
     let broken = drawn("request 0 5 07\ngive 0\nshort 0 1\ngive 0\nshort 1 1\nticks 9\n");
@@ -211,6 +287,11 @@ fn answers_that_are_none() {
     assert_eq!(says(&["modules 2"]), "line 2: the harness gave no answer: tick");
     assert_eq!(says(&["modules 2", "one"]), "line 2: the harness answered one, which is no answer: tick");
     assert_eq!(says(&["modules 2", "1 7:5:00"]), "line 2: the answer names a module that is not there: tick");
+    assert_eq!(says(&["modules 2", "1 2:dropped:1"]), "line 2: the answer names a module that is not there: tick");
+    assert_eq!(
+        says(&["modules 2", "1 1:dropped:0"]),
+        "line 2: the harness answered 1 1:dropped:0, which is no answer: tick"
+    );
     assert_eq!(says(&["modules 2", "1", "2"]), "the harness gave 1 more answers than there are lines");
 }
 

@@ -95,8 +95,7 @@ void run(void)
         left(&bench, call.node, x);
         answer.left = sum_of(x, LEFT);
         answer.output = sum_of(bench.output, sizeof bench.output);
-        wrong += answer.left != expected.left || answer.output != expected.output || answer.reply != expected.reply ||
-                 answer.written != expected.written || answer.id != expected.id || answer.numbers != expected.numbers;
+        wrong += !same_answer(&answer, &expected);
         calls++;
     }
     say("size_t of ", sizeof(size_t));

@@ -3,6 +3,12 @@
 
 #include <string.h>
 
+bool same_answer(const struct answer *a, const struct answer *b)
+{
+    return a->left == b->left && a->output == b->output && a->reply == b->reply && a->written == b->written && a->id == b->id &&
+           a->numbers == b->numbers && a->told == b->told && a->dropped == b->dropped && a->delivered == b->delivered;
+}
+
 uint64_t random_step(uint64_t *state)
 {
     uint64_t z = (*state += UINT64_C(0x9E3779B97F4A7C15));
@@ -70,6 +76,20 @@ static void settings(struct call *call, uint64_t *state)
         default: call->class_ = below(state, 2) ? below(state, 5) : edge(state); break;
         }
     }
+    if (below(state, 8) == 0) { /* legal but for one, or only if they were cut */
+        switch (below(state, 4)) {
+        case 0: call->role += 256; break;
+        case 1: call->class_ += 256; break;
+        case 2: call->s[below(state, 4)] = 0; break;
+        default:
+            if (below(state, 2)) {
+                call->class_ = 0;
+                memset(call->s, 0, sizeof call->s);
+            }
+            call->s[below(state, 4)] += 65536;
+            break;
+        }
+    }
 }
 
 static uint16_t room(uint64_t *state, uint16_t least)
@@ -79,10 +99,15 @@ static uint16_t room(uint64_t *state, uint16_t least)
     return r < 7 ? (uint16_t)(least + below(state, 8)) : r == 7 ? (uint16_t)below(state, 700) : PICK(state, edges);
 }
 
-/* A slot of the node, with some tries one of this role. */
-static const struct kosmydore_slot *some_slot(uint64_t *state, const struct kosmydore_node *node, uint8_t role)
+/* A slot of the node, with some tries one of this role; where it is to hold a message, one that does if there is one. */
+static const struct kosmydore_slot *some_slot(uint64_t *state, const struct kosmydore_node *node, uint8_t role, bool holds)
 {
+    const uint32_t from = below(state, KOSMYDORE_SLOTS);
     const struct kosmydore_slot *slot = node->slots;
+    for (uint32_t i = 0; holds && i < KOSMYDORE_SLOTS; i++) {
+        slot = &node->slots[(from + i) % KOSMYDORE_SLOTS];
+        if (slot->used && slot->settings.role == role && slot->message.held) return slot;
+    }
     for (int tries = 0; tries < 6 && !(tries && slot->used && slot->settings.role == role); tries++) {
         slot = &node->slots[below(state, KOSMYDORE_SLOTS)];
     }
@@ -99,6 +124,8 @@ static void node_of(const uint8_t *lent, struct kosmydore_node *node)
         const uint8_t *at = lent + 32 * i;
         s->stream = two(at) | (uint32_t)two(at + 2) << 16;
         s->used = at[4] != 0;
+        s->message.held = at[5] != 0;
+        s->message.length = at[12];
         s->settings.role = at[13];
         s->settings.class_ = at[14];
     }
@@ -118,7 +145,7 @@ void random_call(struct call *call, uint64_t *state, const struct bench *bench)
     memset(call, 0, sizeof *call);
     call->kind = r == 0 || r >= 1990 ? FRESH : r < 8 ? WILD : r < 16 ? DUE : r < 100 ? NUMBERS : r < 160 ? COUNT : PICK(state, mix);
     call->form = r >= 1990 || below(state, 3) ? LENT : BY_VALUE;
-    call->node = (uint8_t)below(state, NODES);
+    call->node = (uint8_t)below(state, below(state, 2) ? NODES : NODES / 8); /* some have longer histories */
     call->node_length = lent_length(state);
     if (r >= 1990) call->node_length = (uint16_t)(KOSMYDORE_NODE_BYTES + (r % 2 ? 1 : -1)); /* is refused */
     call->tally_length = (uint8_t)(below(state, 20) ? KOSMYDORE_TALLY_SIZE : below(state, TALLY_ROOM + 1));
@@ -127,7 +154,7 @@ void random_call(struct call *call, uint64_t *state, const struct bench *bench)
     struct kosmydore_node lent;
     if (call->form == LENT) node_of(bench->lent[call->node], &lent);
     const struct kosmydore_node *node = call->form == LENT ? &lent : &bench->nodes[call->node];
-    const struct kosmydore_slot *slot = some_slot(state, node, call->kind == REQUEST);
+    const struct kosmydore_slot *slot = some_slot(state, node, call->kind == REQUEST, call->kind == HEAR && below(state, 2));
     bool own = below(state, 4) != 0;
     if (own && (call->kind == HEAR || call->kind == REQUEST || (call->kind == SET_UP && below(state, 3) == 0))) {
         call->number = slot->stream; /* mostly one that the node has */
@@ -139,6 +166,7 @@ void random_call(struct call *call, uint64_t *state, const struct bench *bench)
     if (below(state, 2)) { /* the same bytes again, or one of them another, or one more of them */
         call->payload_seed = ALIKE + (below(state, 3) ? 0 : below(state, 9));
         call->payload_length = (uint16_t)(7 + below(state, 2));
+        if (slot->message.held && slot->message.length <= 8 && below(state, 2)) call->payload_length = slot->message.length;
     }
     call->output_length = room(state, call->kind == HEAR ? 16 : call->kind == TICK ? 512 : 8);
     if (call->kind == HEAR) {

@@ -26,7 +26,7 @@ struct call {
 
 struct answer {
     uint64_t left, output; /* sums of what is left of node and tally, and of every byte of the output's room */
-    uint32_t reply, written, id, numbers;
+    uint32_t reply, written, id, numbers, told, dropped, delivered, pad;
 };
 
 /* What a call is made with, and what it leaves. */
@@ -37,6 +37,8 @@ struct bench {
     uint8_t output[ROOM + GUARD];
     uint8_t payload[ROOM];
 };
+
+bool same_answer(const struct answer *a, const struct answer *b);
 
 uint64_t random_step(uint64_t *state);
 /* A call for one of the nodes. */

@@ -6,6 +6,26 @@
 
 make_call MAKE_CALL;
 
+/* Of the address sanitizer, and not there without it: what is not lent may be neither read nor written. */
+void __asan_poison_memory_region(const volatile void *from, size_t count) __attribute__((weak));
+void __asan_unpoison_memory_region(const volatile void *from, size_t count) __attribute__((weak));
+
+static void not_lent(struct bench *bench, const struct call *c)
+{
+    if (!__asan_poison_memory_region) return;
+    uint32_t *tally = bench->tally[c->node];
+    __asan_poison_memory_region(bench->output + ROOM, GUARD);
+    __asan_poison_memory_region(bench->output, (size_t)(ROOM - c->output_length));
+    __asan_poison_memory_region(bench->payload, (size_t)(ROOM - c->payload_length));
+    __asan_poison_memory_region(tally + c->tally_length, (size_t)(TALLY_ROOM - c->tally_length) * sizeof *tally);
+    __asan_poison_memory_region(bench->lent[c->node] + c->node_length, (size_t)(NODE_ROOM - c->node_length));
+}
+
+static void all_again(struct bench *bench)
+{
+    if (__asan_unpoison_memory_region) __asan_unpoison_memory_region(bench, sizeof *bench);
+}
+
 static void mix(struct answer *answer, uint32_t number)
 {
     answer->numbers = (answer->numbers ^ number) * UINT32_C(2654435761); /* one to one in each of the two */
@@ -54,16 +74,19 @@ static void by_value(struct bench *bench, const struct call *c, struct answer *a
         break;
     }
     case HEAR: {
-        struct kosmydore_delivered r = kosmydore_hear(*node, c->number, c->dlc, payload, c->payload_length, output, c->output_length);
+        struct kosmydore_heard r = kosmydore_hear(*node, c->number, c->dlc, payload, c->payload_length, output, c->output_length);
         *node = r.node;
         a->reply = r.reply;
+        a->told = r.told;
         a->written = (uint32_t)r.written;
         break;
     }
     case TICK: {
-        struct kosmydore_delivered r = kosmydore_tick(*node, output, c->output_length);
+        struct kosmydore_ticked r = kosmydore_tick(*node, output, c->output_length);
         *node = r.node;
         a->reply = r.reply;
+        a->dropped = r.dropped;
+        a->delivered = r.delivered;
         a->written = (uint32_t)r.written;
         break;
     }
@@ -94,16 +117,19 @@ static void lent(struct bench *bench, const struct call *c, struct answer *a)
     switch (c->kind) {
     case SET_UP: a->reply = kosmydore_module_set_up(node, c->node_length, c->number, settings_of(c), tally, c->tally_length); break;
     case HEAR: {
-        struct kosmydore_written r = kosmydore_module_hear(node, c->node_length, c->number, c->dlc, payload, c->payload_length,
-                                                           output, c->output_length, tally, c->tally_length);
+        struct kosmydore_module_heard r = kosmydore_module_hear(node, c->node_length, c->number, c->dlc, payload, c->payload_length,
+                                                                output, c->output_length, tally, c->tally_length);
         a->reply = r.reply;
+        a->told = r.told;
         a->written = (uint32_t)r.written;
         break;
     }
     case TICK: {
-        struct kosmydore_written r =
+        struct kosmydore_module_ticked r =
             kosmydore_module_tick(node, c->node_length, output, c->output_length, tally, c->tally_length);
         a->reply = r.reply;
+        a->dropped = r.dropped;
+        a->delivered = r.delivered;
         a->written = (uint32_t)r.written;
         break;
     }
@@ -129,12 +155,16 @@ void MAKE_CALL(struct bench *bench, const struct call *c, struct answer *a)
     switch (c->kind) {
     case NUMBERS: numbers(c, a); break;
     case COUNT: {
-        uint32_t reply = c->code < 11 ? c->code + c->number % 4 : c->code;
+        uint32_t reply = c->code ? c->number % 26 : c->number;
         a->reply = kosmydore_count(bench->tally[c->node], c->tally_length, reply);
         break;
     }
     case WILD:
     case DUE: wild(bench, c); break;
-    default: (c->form == LENT ? lent : by_value)(bench, c, a); break;
+    default:
+        not_lent(bench, c);
+        (c->form == LENT ? lent : by_value)(bench, c, a);
+        all_again(bench);
+        break;
     }
 }

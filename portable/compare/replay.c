@@ -2,7 +2,6 @@
 #include "call.h"
 
 #include <stdio.h>
-#include <string.h>
 
 make_call portable_call;
 
@@ -24,7 +23,7 @@ int main(int argc, char **argv)
         left(&bench, call.node, x);
         answer.left = sum_of(x, LEFT);
         answer.output = sum_of(bench.output, sizeof bench.output);
-        wrong += memcmp(&answer, &expected, sizeof answer) != 0;
+        wrong += !same_answer(&answer, &expected);
         calls++;
     }
     printf("size_t of %u bytes: %lu calls, %lu differ\n", (unsigned)sizeof(size_t), calls, wrong);

@@ -10,9 +10,11 @@ use crate::mir::{all, Function, Operand, Place, Statement, Ty};
 use crate::unknown::{unknown, Answer};
 
 mod flow;
+mod tables;
 mod values;
 
 use flow::goes_on;
+use tables::Tables;
 use values::Spot;
 
 /// How long a line of parameters may be.
@@ -63,6 +65,8 @@ pub struct CFunction<'a, 'b> {
     taken: BTreeSet<usize>,
     /// The locals that are declared where they are first written, and where that is.
     born: BTreeMap<usize, usize>,
+    /// The locals that hold literals and are only read.
+    tables: Tables<'a>,
     /// The locals that the text names.
     used: BTreeSet<usize>,
     lines: Vec<String>,
@@ -91,6 +95,7 @@ impl<'a, 'b> CFunction<'a, 'b> {
             function,
             names,
             born: born(function, &taken),
+            tables: Tables::of(function, &taken),
             read,
             taken,
             used: BTreeSet::new(),
@@ -186,7 +191,7 @@ impl<'a, 'b> CFunction<'a, 'b> {
         }
         let (kind, name) = match self.names {
             Some(_) => ("", last(&self.function.name).to_string()),
-            None => ("static ", CTypes::c_name(&self.function.name)),
+            None => ("KD_STATIC ", CTypes::c_name(&self.function.name)),
         };
         let mut line = format!("{kind}{}", self.types.declare(&answer, &format!("{name}("), at)?);
         let mut signature = String::new();
@@ -223,8 +228,12 @@ impl<'a, 'b> CFunction<'a, 'b> {
         for local in self.used.clone() {
             let ty = self.shape(&self.function.locals[local])?;
             let declared = (1..=self.function.params).contains(&local) || self.born.contains_key(&local);
-            if !declared && ty != Ty::Unit {
-                head.push(format!("{};", self.types.declare(&ty, &format!("v{local}"), self.at)?));
+            let declare = self.types.declare(&ty, &format!("v{local}"), self.at);
+            if self.tables.is_one(local) {
+                let (declare, initial) = (declare?, self.initial(local)?);
+                head.push(format!("static const {declare} = {initial};"));
+            } else if !declared && ty != Ty::Unit {
+                head.push(format!("{};", declare?));
             }
         }
         let head: Vec<String> = head.into_iter().map(|line| format!("    {line}")).collect();

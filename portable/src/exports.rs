@@ -28,7 +28,8 @@ pub const FUNCTIONS: &[&str] = &[
 /// The structs that the header declares: the name in the program, and the one in C. Fields are matched in their order.
 pub const STRUCTS: &[(&str, &str)] = &[
     ("firmware::judged::SettingsC", "kosmydore_settings"),
-    ("firmware::lent::WrittenC", "kosmydore_written"),
+    ("firmware::lent::LentHeardC", "kosmydore_module_heard"),
+    ("firmware::lent::LentTickedC", "kosmydore_module_ticked"),
     ("firmware::lent::GivenOutC", "kosmydore_given_out"),
     ("wire::settings::Settings", "kosmydore_slot_settings"),
     ("node::slots::Message", "kosmydore_message"),
@@ -36,7 +37,8 @@ pub const STRUCTS: &[(&str, &str)] = &[
     ("node::slots::Slot", "kosmydore_slot"),
     ("node::Node", "kosmydore_node"),
     ("firmware::calls::AnsweredC", "kosmydore_answered"),
-    ("firmware::calls::DeliveredC", "kosmydore_delivered"),
+    ("firmware::calls::HeardC", "kosmydore_heard"),
+    ("firmware::calls::TickedC", "kosmydore_ticked"),
     ("firmware::calls::GivenC", "kosmydore_given"),
 ];
 

@@ -51,11 +51,21 @@ pub struct Delivery {
     pub payload: Vec<u8>,
 }
 
-/// One module's hearing of a sending; a plain frame is delivered at once.
+/// What a module dropped at a tick.
+#[derive(Clone, Copy, Debug, PartialEq, Eq)]
+pub struct Drops {
+    pub tick: u64,
+    pub module: usize,
+    /// How many messages: one or more.
+    pub number: usize,
+}
+
+/// One module's hearing of a sending: what it did, which a refused frame does not; a plain frame is delivered at once.
 #[derive(Clone, Debug, PartialEq, Eq)]
 pub struct Hearing {
     pub module: usize,
     pub reply: Reply,
+    pub did: Option<Did>,
     pub delivered: Option<(Stream, Vec<u8>)>,
 }
 
@@ -75,9 +85,10 @@ pub enum Outcome {
         payload: Vec<u8>,
     },
     Heard(Vec<Hearing>),
-    /// The new count, and the deliveries by tick, module and stream.
+    /// The new count, the drops by tick and module, and the deliveries by tick, module and stream.
     Ticked {
         count: u64,
+        dropped: Vec<Drops>,
         delivered: Vec<Delivery>,
     },
 }
@@ -188,17 +199,17 @@ impl Bench {
             let mut output = [0; HEAR_OUTPUT + 1];
             let hearing = module.node.hear(frame.id.0, dlc, &frame.payload, &mut output);
             let stream = Stream(frame.id.0 / 4);
-            if hearing.did == Did::AbortPending {
+            if hearing.causes_abort {
                 causes.push(Cause { tick: self.count, module: number, stream });
             }
-            let delivered = (hearing.did == Did::DeliveredAtOnce).then(|| (stream, frame.payload.clone()));
-            heard.push(Hearing { module: number, reply: hearing.reply, delivered });
+            let delivered = (hearing.did == Some(Did::DeliveredAtOnce)).then(|| (stream, frame.payload.clone()));
+            heard.push(Hearing { module: number, reply: hearing.reply, did: hearing.did, delivered });
         }
         Outcome::Heard(heard)
     }
 
     fn ticks(&mut self, number: u64, causes: &mut Vec<Cause>) -> Outcome {
-        let mut delivered = Vec::new();
+        let (mut dropped, mut delivered) = (Vec::new(), Vec::new());
         let mut output = [0; TICK_OUTPUT + 1];
         for done in 0..number {
             if done % LOOK_EACH == 0 && self.is_idle() {
@@ -211,7 +222,11 @@ impl Bench {
                 if !it.is_ticked(self.fault) {
                     continue;
                 }
-                for (stream, happened) in it.node.tick(&mut output).happened {
+                let ticked = it.node.tick(&mut output);
+                if ticked.dropped > 0 {
+                    dropped.push(Drops { tick, module, number: ticked.dropped });
+                }
+                for (stream, happened) in ticked.happened {
                     match happened {
                         Happened::Delivered(payload) => delivered.push(Delivery { tick, module, stream, payload }),
                         Happened::AbortPending => causes.push(Cause { tick, module, stream }),
@@ -220,7 +235,7 @@ impl Bench {
                 }
             }
         }
-        Outcome::Ticked { count: self.count, delivered }
+        Outcome::Ticked { count: self.count, dropped, delivered }
     }
 
     fn is_idle(&self) -> bool {

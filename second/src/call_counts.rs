@@ -2,6 +2,9 @@
 
 use std::fmt;
 
+use crate::deeds::Deeds;
+use crate::node::Ticked;
+use crate::receiver::Happened;
 use crate::reply::{Reply, REPLIES};
 
 /// The five calls whose replies the tally counts.
@@ -27,11 +30,11 @@ impl Call {
         }
     }
 
-    /// The reply numbers that the call can give.
+    /// The numbers of the replies that the call can give.
     pub fn numbers(self) -> &'static [usize] {
         match self {
             Call::SetUp => &[0, 1, 2, 3],
-            Call::Hear => &[0, 4, 5, 6, 7, 11],
+            Call::Hear => &[0, 5, 6, 7, 11, 18, 19, 20, 21],
             Call::Tick => &[0, 11],
             Call::Request => &[0, 8, 9, 10],
             Call::NextFrame => &[0, 11, 12],
@@ -48,7 +51,10 @@ pub struct CallCounts {
     pub nodes: u64,
     /// Frames heard with a DLC of 9 to 16, each with eight bytes and with nine.
     pub high_dlcs: [[u64; 2]; 8],
-    pub deliveries: u64,
+    /// What frames that were heard did.
+    pub deeds: Deeds,
+    /// Lines `tick` that dropped none, one or several messages, by how many they delivered.
+    pub ticks: [[u64; 3]; 3],
     pub aborts: u64,
     pub unreadable: u64,
     /// How often the 16-bit counter rolled over.
@@ -69,12 +75,30 @@ impl CallCounts {
         }
     }
 
+    pub fn ticked(&mut self, ticked: &Ticked) {
+        let caused = ticked.happened.iter().filter(|(_, happened)| *happened == Happened::AbortPending);
+        self.aborts += caused.count() as u64;
+    }
+
+    /// A tick whose drops and deliveries are told.
+    pub fn told(&mut self, ticked: &Ticked) {
+        self.ticks[ticked.dropped.min(2)][ticked.delivered.min(2)] += u64::from(ticked.reply == Reply::Done);
+    }
+
     /// What could occur and did not.
     pub fn missing(&self) -> Vec<String> {
-        let mut missing = Vec::new();
+        let mut missing = self.deeds.missing();
+        for (dropped, row) in self.ticks.iter().enumerate() {
+            for (delivered, count) in row.iter().enumerate() {
+                if *count == 0 {
+                    missing.push(format!("no line `tick` dropped {dropped} and delivered {delivered}, 2 for several"));
+                }
+            }
+        }
         for call in Call::ALL {
-            for &number in call.numbers() {
-                if self.replies[call as usize][number] == 0 {
+            for reply in Reply::ALL {
+                let number = reply.number();
+                if call.numbers().contains(&number) && self.replies[call as usize][reply.place()] == 0 {
                     missing.push(format!("{} never answered {number}", call.name()));
                 }
             }
@@ -93,12 +117,8 @@ impl CallCounts {
                 }
             }
         }
-        let counts = [
-            ("a delivery", self.deliveries),
-            ("an abort", self.aborts),
-            ("a line that can't be read", self.unreadable),
-            ("a rollover", self.rollovers),
-        ];
+        let counts =
+            [("an abort", self.aborts), ("a line that can't be read", self.unreadable), ("a rollover", self.rollovers)];
         missing.extend(counts.iter().filter(|(_, count)| *count == 0).map(|(what, _)| what.to_string()));
         missing
     }
@@ -108,9 +128,15 @@ impl fmt::Display for CallCounts {
     fn fmt(&self, f: &mut fmt::Formatter) -> fmt::Result {
         writeln!(
             f,
-            "  fresh nodes {}, deliveries {}, aborts made pending {}, rollovers {}, lines that can't be read {}",
-            self.nodes, self.deliveries, self.aborts, self.rollovers, self.unreadable
+            "  fresh nodes {}, aborts made pending {}, rollovers {}, lines that can't be read {}",
+            self.nodes, self.aborts, self.rollovers, self.unreadable
         )?;
+        write!(f, "{}", self.deeds)?;
+        write!(f, "  lines `tick` that delivered none, one, several:")?;
+        for (dropped, row) in ["none", "one", "several"].iter().zip(&self.ticks) {
+            write!(f, " {}, {}, {} dropping {dropped};", row[0], row[1], row[2])?;
+        }
+        writeln!(f)?;
         write!(f, "  set ups taken (receive, send):")?;
         for (name, row) in ["plain", "IMD", "2M"].iter().zip(&self.taken) {
             write!(f, " {name} {}, {};", row[0], row[1])?;
@@ -123,7 +149,7 @@ impl fmt::Display for CallCounts {
         for call in Call::ALL {
             write!(f, "  {:<10}", call.name())?;
             for reply in Reply::ALL {
-                let count = self.replies[call as usize][reply.number()];
+                let count = self.replies[call as usize][reply.place()];
                 if count > 0 {
                     write!(f, "  {} {reply:?} {count}", reply.number())?;
                 }

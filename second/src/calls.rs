@@ -7,8 +7,7 @@ use crate::call_counts::{Call, CallCounts};
 use crate::fault::Fault;
 use crate::fields::{Fields, Unread};
 use crate::lines::Cut;
-use crate::node::{Node, TICK_OUTPUT};
-use crate::receiver::{Did, Happened};
+use crate::node::{Node, Ticked, TICK_OUTPUT};
 use crate::reply::{Reply, Tally};
 use crate::settings::Asked;
 use crate::words::{hex, put_hex};
@@ -135,10 +134,11 @@ impl Calls {
     }
 
     fn count(&mut self, call: Call, reply: Reply) {
-        self.seen.replies[call as usize][reply.number()] += 1;
+        self.seen.replies[call as usize][reply.place()] += 1;
         match self.fault {
             Fault::InventedTally => self.tally.count(Reply::Done),
             Fault::TallyMissesRefusals if reply != Reply::Done => {}
+            Fault::TallyOfFour if reply >= Reply::IdentifierTooBig => self.tally.count(Reply::BadFrame),
             _ => self.tally.count(reply),
         }
     }
@@ -157,9 +157,11 @@ impl Calls {
             Line::Hear { id, dlc, payload, output } => self.hear(id, dlc, &payload, output),
             Line::Tick { output } => {
                 let mut lent = vec![FILL; output];
-                let (reply, written) = self.tick(&mut lent);
+                let ticked = self.tick(&mut lent);
+                self.seen.told(&ticked);
+                let Ticked { reply, written, dropped, delivered, .. } = ticked;
                 let clean = if lent[written..].iter().all(|byte| *byte == FILL) { "clean" } else { "dirty" };
-                format!("{} {} {} {}", reply.number(), written, hex(&lent[..written]), clean)
+                format!("{} {written} {} {clean} {dropped} {delivered}", reply.number(), hex(&lent[..written]))
             }
             Line::Ticks { number } => self.ticks(number),
             Line::Request { stream, payload } => {
@@ -185,25 +187,22 @@ impl Calls {
         let heard = self.node.hear(id, dlc, payload, &mut lent);
         self.count(Call::Hear, heard.reply);
         self.seen.heard(dlc, payload.len());
-        match heard.did {
-            Did::DeliveredAtOnce => self.seen.deliveries += 1,
-            Did::AbortPending => self.seen.aborts += 1,
-            Did::Nothing => {}
-        }
-        format!("{} {} {}", heard.reply.number(), heard.written, hex(&lent))
+        self.seen.aborts += u64::from(heard.causes_abort);
+        let told = match heard.did {
+            Some(did) => {
+                self.seen.deeds.count(did);
+                did.word()
+            }
+            None => "-",
+        };
+        format!("{} {} {} {told}", heard.reply.number(), heard.written, hex(&lent))
     }
 
-    fn tick(&mut self, lent: &mut [u8]) -> (Reply, usize) {
+    fn tick(&mut self, lent: &mut [u8]) -> Ticked {
         let ticked = self.node.tick(lent);
         self.count(Call::Tick, ticked.reply);
-        for (_, happened) in &ticked.happened {
-            match happened {
-                Happened::Delivered(_) => self.seen.deliveries += 1,
-                Happened::AbortPending => self.seen.aborts += 1,
-                Happened::Dropped => {}
-            }
-        }
-        (ticked.reply, ticked.written)
+        self.seen.ticked(&ticked);
+        ticked
     }
 
     fn ticks(&mut self, number: u64) -> String {
@@ -216,7 +215,7 @@ impl Calls {
                 (0..rest).for_each(|_| self.count(Call::Tick, Reply::Done));
                 break;
             }
-            let (_, written) = self.tick(&mut lent);
+            let written = self.tick(&mut lent).written;
             if written > 0 {
                 let _ = write!(text, "{at} ");
                 put_hex(&mut text, &lent[..written]);

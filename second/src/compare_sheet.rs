@@ -88,7 +88,7 @@ pub fn compare(options: &Options) -> Result<bool, String> {
         let given = running.finish(PROGRAM_LIMIT);
         if let Some(at) = first_difference(due.iter(), &given.lines) {
             let line = batch[at].clone();
-            let again = options.program.answers(text(&[line.clone()]), PROGRAM_LIMIT)?;
+            let again = options.program.answers(text(std::slice::from_ref(&line)), PROGRAM_LIMIT)?;
             match Difference::between(vec![line], due[at].clone(), again) {
                 Some(difference) => difference.print(),
                 None => println!("compare sheet: it can't be shown by its line alone"),

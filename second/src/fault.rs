@@ -1,6 +1,7 @@
 //! The faults that can be switched on in this implementation: each makes a mutant that the comparisons have to catch.
 
 use crate::limits::{Limit, Off};
+use crate::reply::Reply;
 
 macro_rules! faults {
     ($($name:ident, $word:literal, $says:literal;)*) => {
@@ -13,6 +14,8 @@ macro_rules! faults {
             Limit(Limit, Off),
             /// A cell of the class-by-code table turned over.
             Cell(u8, u8),
+            /// Each of two replies to a frame at fault given for the other.
+            Swapped(Reply, Reply),
         }
 
         const NAMED: &[(Fault, &str, &str)] = &[$((Fault::$name, $word, $says),)*];
@@ -51,8 +54,20 @@ faults! {
     ClashReplaces, "clash-replaces", "a Clash replaces what is held";
     DlcAboveEight, "dlc-above-eight", "DLC 9 to 15 are refused";
     NineBytes, "nine-bytes", "DLC 9 with nine bytes is taken";
+    OneFaultOfFrames, "one-fault-of-frames", "every fault in a frame is answered 4";
     SendSlotHears, "send-slot-hears", "a frame of a send slot is answered 0";
     TickDeliversOne, "tick-delivers-one", "a tick delivers one message at most";
+    // What is told.
+    DuplicateIsNew, "duplicate-is-new", "a duplicate is told as new";
+    AgainIsConfirmed, "again-is-confirmed", "confirmed is told for confirmed again";
+    PendingToldOnce, "pending-told-once", "an abort that is pending already is told as nothing to drop";
+    ConfirmedDropUntold, "confirmed-drop-untold", "an abort that drops a confirmed message is told as nothing to drop";
+    RefusalTells, "refusal-tells", "a refused frame is told as new";
+    DropsCountDelivered, "drops-count-delivered", "what a tick delivers is counted among the dropped";
+    DeliveredCountDrops, "delivered-count-drops", "what a tick drops is counted among the delivered";
+    OneDropTold, "one-drop-told", "a tick tells one drop at most";
+    HoldIsDrop, "hold-is-drop", "the end of a hold is counted as a drop";
+    HoldIsDelivery, "hold-is-delivery", "the end of a hold is counted as a delivery";
     // Frames given out.
     AbortTwice, "abort-twice", "a pending abort that was caused twice is given out twice";
     BusyMissesPending, "busy-misses-pending", "Busy does not look at pending frames";
@@ -68,17 +83,24 @@ faults! {
     // Orders of refusal.
     TakenFirst, "taken-first", "set up answers 3 before 1";
     FullFirst, "full-first", "set up answers 2 before 3";
-    FrameFirst, "frame-first", "hear answers 4 before 11";
-    MineFirst, "mine-first", "hear answers 5 before 4";
+    FrameFirst, "frame-first", "hear answers 18 to 21 before 11";
+    DlcFirst, "dlc-first", "hear answers 19 before 18";
+    UnwantedFirst, "unwanted-first", "hear answers 21 before 20";
+    MineFirst, "mine-first", "hear answers 5 before 18 to 21";
     SenderFirst, "sender-first", "request answers 9 before 10";
     NothingFirst, "nothing-first", "next frame answers 12 before 11";
     // The tally and the bench.
+    TallyOfFour, "tally-of-4", "the tally counts 18 to 21 as 4";
     TallyMissesRefusals, "tally-misses-refusals", "the tally does not count refusals";
     DeadHears, "dead-hears", "a dead module hears";
     DeadTicks, "dead-ticks", "a dead module is ticked";
     OwnerHears, "owner-hears", "a sending is heard by its owner";
     ShortReachesAll, "short-reaches-all", "a short sending reaches every module";
 }
+
+/// The replies to a frame at fault, in hear's order.
+const FAULTS_IN_FRAMES: [Reply; 4] =
+    [Reply::IdentifierTooBig, Reply::DlcTooBig, Reply::PayloadLength, Reply::UnwantedPayload];
 
 impl Fault {
     /// Every fault, in the order of the table of mutants.
@@ -93,6 +115,11 @@ impl Fault {
                 all.push(Fault::Cell(class, code));
             }
         }
+        for (at, &one) in FAULTS_IN_FRAMES.iter().enumerate() {
+            for &other in &FAULTS_IN_FRAMES[at + 1..] {
+                all.push(Fault::Swapped(one, other));
+            }
+        }
         all
     }
 
@@ -102,6 +129,7 @@ impl Fault {
             Fault::Limit(limit, Off::Lower) => format!("{}-lower", limit.word()),
             Fault::Limit(limit, Off::Higher) => format!("{}-higher", limit.word()),
             Fault::Cell(class, code) => format!("cell-{class}-{code}"),
+            Fault::Swapped(one, other) => format!("swapped-{}-{}", one.number(), other.number()),
             _ => self.named().map_or(String::new(), |named| named.1.to_string()),
         }
     }
@@ -111,6 +139,9 @@ impl Fault {
             Fault::None => "no fault".to_string(),
             Fault::Limit(limit, _) => format!("{} {} instead of {}", limit.says(), limit.of(self), limit.value()),
             Fault::Cell(class, code) => format!("class {class} by code {code} is turned over in the table"),
+            Fault::Swapped(one, other) => {
+                format!("{} is answered for {}, and that for it", one.number(), other.number())
+            }
             _ => self.named().map_or(String::new(), |named| named.2.to_string()),
         }
     }

@@ -2,13 +2,14 @@
 
 use std::fmt::Write;
 
-use crate::bench::{Bench, Delivery, Hearing, Outcome, Step};
+use crate::bench::{Bench, Delivery, Drops, Hearing, Outcome, Step};
 use crate::calls::{read_asked, write_asked};
 use crate::fault::Fault;
 use crate::fields::{Fields, Unread};
 use crate::history::{Event, Hearers, Line};
 use crate::ident::{BusId, Stream};
 use crate::lines::Cut;
+use crate::receiver::Did;
 use crate::reply::Reply;
 use crate::words::{hex, number, number_u32, payload, put_hex};
 
@@ -180,29 +181,55 @@ pub fn write_answer(event: &Event, outcome: &Outcome) -> String {
                 if !text.is_empty() {
                     text.push(' ');
                 }
-                let _ = write!(text, "{}:{}", hearing.module, hearing.reply.number());
-                if let Some((stream, payload)) = &hearing.delivered {
-                    let _ = write!(text, ":{}:", stream.0);
-                    put_hex(&mut text, payload);
-                }
+                put_hearing(&mut text, hearing);
             }
             if text.is_empty() {
                 text.push('-');
             }
             text
         }
-        Outcome::Ticked { count, delivered } => {
+        Outcome::Ticked { count, dropped, delivered } => {
             let mut text = count.to_string();
-            for delivery in delivered {
+            let place = |text: &mut String, tick: u64, module: usize| {
                 text.push(' ');
                 if let Event::Ticks(_) = event {
-                    let _ = write!(text, "{}:", delivery.tick);
+                    let _ = write!(text, "{tick}:");
                 }
-                let _ = write!(text, "{}:{}:", delivery.module, delivery.stream.0);
+                let _ = write!(text, "{module}:");
+            };
+            let mut drops = dropped.iter().peekable();
+            let mut put_drops = |text: &mut String, until: Option<(u64, usize)>| {
+                let due = |drops: &&Drops| until.is_none_or(|until| (drops.tick, drops.module) <= until);
+                while let Some(drops) = drops.next_if(due) {
+                    place(text, drops.tick, drops.module);
+                    let _ = write!(text, "{DROPPED}:{}", drops.number);
+                }
+            };
+            for delivery in delivered {
+                // A module's drops stand before its deliveries of the tick.
+                put_drops(&mut text, Some((delivery.tick, delivery.module)));
+                place(&mut text, delivery.tick, delivery.module);
+                let _ = write!(text, "{}:", delivery.stream.0);
                 put_hex(&mut text, &delivery.payload);
             }
+            put_drops(&mut text, None);
             text
         }
+    }
+}
+
+/// What stands in place of a stream before the number of messages that a tick dropped.
+const DROPPED: &str = "dropped";
+
+/// A refusal by its number alone; what a frame did that was taken, and what was delivered at once.
+fn put_hearing(text: &mut String, hearing: &Hearing) {
+    let _ = write!(text, "{}:{}", hearing.module, hearing.reply.number());
+    if let (Reply::Done, Some(did)) = (hearing.reply, hearing.did) {
+        let _ = write!(text, ":{}", did.word());
+    }
+    if let Some((stream, payload)) = &hearing.delivered {
+        let _ = write!(text, ":{}:", stream.0);
+        put_hex(text, payload);
     }
 }
 
@@ -230,30 +257,44 @@ pub fn read_answer(event: &Event, answer: &str) -> Option<Outcome> {
         (Event::Send { .. }, hearings) => {
             let read = |word: &&str| {
                 let fields: Vec<&str> = word.split(':').collect();
-                let delivered = match fields.get(2..) {
-                    Some([number, payload]) => Some((stream(number)?, bytes(payload)?)),
-                    Some([]) => None,
+                let [module, number, told @ ..] = fields.as_slice() else {
+                    return None;
+                };
+                let (module, reply) = (index(module)?, reply(number)?);
+                let (did, delivered) = match (reply, told) {
+                    (Reply::Done, [did]) => (Some(Did::from_word(did)?), None),
+                    (Reply::Done, [did, of, payload]) => {
+                        (Some(Did::from_word(did)?), Some((stream(of)?, bytes(payload)?)))
+                    }
+                    (Reply::Done, _) => return None,
+                    (_, []) => (None, None),
                     _ => return None,
                 };
-                Some(Hearing { module: index(fields[0])?, reply: reply(fields[1])?, delivered })
+                let at_once = did == Some(Did::DeliveredAtOnce);
+                (at_once == delivered.is_some()).then_some(Hearing { module, reply, did, delivered })
             };
             hearings.iter().map(read).collect::<Option<Vec<Hearing>>>().map(Outcome::Heard)
         }
-        (Event::Tick | Event::Ticks(_), [count, deliveries @ ..]) => {
+        (Event::Tick | Event::Ticks(_), [count, happened @ ..]) => {
             let count = value(count)?;
-            let read = |word: &&str| {
+            let (mut dropped, mut delivered) = (Vec::new(), Vec::new());
+            for word in happened {
                 let fields: Vec<&str> = word.split(':').collect();
                 let (tick, fields) = match (event, fields.as_slice()) {
                     (Event::Ticks(_), [tick, fields @ ..]) => (value(tick)?, fields),
                     (_, fields) => (count, fields),
                 };
-                let [module, number, payload] = fields else {
+                let [module, what, rest] = fields else {
                     return None;
                 };
-                Some(Delivery { tick, module: index(module)?, stream: stream(number)?, payload: bytes(payload)? })
-            };
-            let delivered = deliveries.iter().map(read).collect::<Option<Vec<Delivery>>>()?;
-            Some(Outcome::Ticked { count, delivered })
+                let module = index(module)?;
+                if *what == DROPPED {
+                    dropped.push(Drops { tick, module, number: index(rest).filter(|number| *number > 0)? });
+                } else {
+                    delivered.push(Delivery { tick, module, stream: stream(what)?, payload: bytes(rest)? });
+                }
+            }
+            Some(Outcome::Ticked { count, dropped, delivered })
         }
         _ => None,
     }

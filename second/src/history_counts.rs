@@ -2,7 +2,8 @@
 
 use std::fmt;
 
-use crate::bench::Outcome;
+use crate::bench::{Delivery, Outcome};
+use crate::deeds::Deeds;
 use crate::demand::Looked;
 use crate::history::{Event, Hearers};
 use crate::random_histories::Made;
@@ -25,6 +26,12 @@ pub struct HistoryCounts {
     /// Histories of more than 65,536 ticks.
     pub rolled: u64,
     pub deliveries: u64,
+    /// What frames that were heard did.
+    pub deeds: Deeds,
+    /// Messages that ticks dropped, and ticks at which a module dropped several, or dropped and delivered.
+    pub drops: u64,
+    pub several: u64,
+    pub both: u64,
     pub aborts: u64,
     pub omissions: u64,
     pub repeats: u64,
@@ -72,7 +79,7 @@ impl HistoryCounts {
     }
 
     fn count_event(&mut self, event: &Event, outcome: &Outcome) {
-        let mut replied = |reply: Reply| self.replies[reply.number()] += 1;
+        let mut replied = |reply: Reply| self.replies[reply.place()] += 1;
         match outcome {
             Outcome::Replied(reply) => replied(*reply),
             Outcome::NothingPending => replied(Reply::Nothing),
@@ -80,12 +87,19 @@ impl HistoryCounts {
             Outcome::Heard(hearings) => {
                 hearings.iter().for_each(|hearing| replied(hearing.reply));
                 self.deliveries += hearings.iter().filter(|hearing| hearing.delivered.is_some()).count() as u64;
+                hearings.iter().filter_map(|hearing| hearing.did).for_each(|did| self.deeds.count(did));
                 let full = matches!(event, Event::Send { hearers: Hearers::Full, .. });
                 self.full += u64::from(full);
                 self.short += u64::from(!full);
             }
-            Outcome::Ticked { delivered, .. } => {
+            Outcome::Ticked { dropped, delivered, .. } => {
                 self.deliveries += delivered.len() as u64;
+                for drops in dropped {
+                    let also = |delivery: &Delivery| (delivery.tick, delivery.module) == (drops.tick, drops.module);
+                    self.drops += drops.number as u64;
+                    self.several += u64::from(drops.number > 1);
+                    self.both += u64::from(delivered.iter().any(also));
+                }
                 self.ticks += match event {
                     Event::Ticks(number) => *number,
                     _ => 1,
@@ -106,6 +120,8 @@ impl HistoryCounts {
             ("an accepted request of 2M", self.requests[2]),
             ("a rollover", self.rolled),
             ("a delivery", self.deliveries),
+            ("a tick that drops several messages of a module", self.several),
+            ("a tick at which a module drops and delivers", self.both),
             ("an abort", self.aborts),
             ("an omission", self.omissions),
             ("a repeat", self.repeats),
@@ -118,6 +134,7 @@ impl HistoryCounts {
         ];
         let mut missing: Vec<String> =
             counts.iter().filter(|(_, count)| *count == 0).map(|(what, _)| what.to_string()).collect();
+        missing.extend(self.deeds.missing());
         for (rule, count) in self.broke.iter().enumerate() {
             if *count == 0 {
                 missing.push(format!("a history that breaks rule {rule}"));
@@ -158,9 +175,15 @@ impl fmt::Display for HistoryCounts {
             "  deliveries {}, aborts made pending {}, deaths {}, ticks {}",
             self.deliveries, self.aborts, self.deaths, self.ticks
         )?;
+        write!(f, "{}", self.deeds)?;
+        writeln!(
+            f,
+            "  dropped by ticks {}; a module dropped several {} times, and dropped and delivered {} times",
+            self.drops, self.several, self.both
+        )?;
         write!(f, "  replies:")?;
         for reply in Reply::ALL {
-            let count = self.replies[reply.number()];
+            let count = self.replies[reply.place()];
             if count > 0 {
                 write!(f, "  {} {reply:?} {count}", reply.number())?;
             }

@@ -42,7 +42,12 @@ pub(crate) fn split_by(fault: Fault, id: BusId) -> Result<(Stream, Code), Reply>
     if i64::from(id.0) > Limit::IdentMost.of(fault) {
         return Err(Reply::BadFrame);
     }
-    Ok((Stream(id.0 / 4), Code::ALL[(id.0 % 4) as usize]))
+    Ok((Stream(id.0 / 4), code_of(id.0)))
+}
+
+/// The code in the two lowest bits, whether or not the rest is a stream.
+pub(crate) fn code_of(id: u32) -> Code {
+    Code::ALL[(id % 4) as usize]
 }
 
 /// The identifier under which a node gives out a frame of one of its own streams.

@@ -5,21 +5,28 @@
 //! of it, a tick on each slot, and a next frame on the first slot that has one pending. The other slots stay as they
 //! were. Of an odd slot (`lent::Kept`) nothing is said but that the others stay, and that a refusal changes no byte.
 
+use crate::deeds::Deeds;
 use crate::ident::Stream;
 use crate::lent::{decode, Decoded, Kept, Layout, Slot, SLOTS};
 use crate::limits::Limit;
 use crate::node::{Node, TICK_OUTPUT};
+use crate::receiver::Did;
 use crate::reply::{Reply, REPLIES};
 use crate::settings::Asked;
 
 /// What was seen in the lines.
-#[derive(Clone, Debug, Default, PartialEq, Eq)]
+#[derive(Clone, Debug, Default)]
 pub struct Seen {
     pub lines: u64,
     /// Those whose whole answer was said, and those of which a part was, since a slot that matters is odd.
     pub whole: u64,
     pub in_part: u64,
     pub replies: [u64; REPLIES],
+    /// What frames did.
+    pub deeds: Deeds,
+    /// The ticks that dropped, and those that delivered.
+    pub dropping: u64,
+    pub delivering: u64,
 }
 
 /// A line as it was read.
@@ -63,7 +70,15 @@ struct Answer {
     reply: u32,
     id: u32,
     written: usize,
+    told: usize,
+    dropped: usize,
+    delivered: usize,
     output: Vec<u8>,
+}
+
+/// The number by which it is told what a frame did.
+fn number(did: Option<Did>) -> usize {
+    did.map_or(0, Did::number)
 }
 
 fn same<T: PartialEq + std::fmt::Debug>(what: &str, said: T, expected: T) -> Result<(), String> {
@@ -186,7 +201,7 @@ fn tick(before: &Decoded, after: &Decoded, mut output: Vec<u8>, answer: &Answer)
     }
     same("the reply", answer.reply, Reply::Done as u32)?;
     same("the counter", after.counter, before.counter.wrapping_add(1))?;
-    let (mut written, mut whole) = (0, true);
+    let (mut written, mut dropped, mut delivered, mut whole) = (0, 0, 0, true);
     for (old, new) in before.slots.iter().zip(&after.slots) {
         match old.kept(time(before.counter)) {
             Kept::Free | Kept::Neither => same("a slot that no tick changes", new, old)?,
@@ -199,11 +214,15 @@ fn tick(before: &Decoded, after: &Decoded, mut output: Vec<u8>, answer: &Answer)
                 same_part(old, new, time(before.counter), &alone)?;
                 output[written..written + ticked.written].copy_from_slice(&record[..ticked.written]);
                 written += ticked.written;
+                dropped += ticked.dropped;
+                delivered += ticked.delivered;
             }
         }
     }
     if whole {
         same("how much is written", answer.written, written)?;
+        same("how many are dropped", answer.dropped, dropped)?;
+        same("how many are delivered", answer.delivered, delivered)?;
         same("the output", &answer.output, &output)?;
     }
     Ok(whole)
@@ -238,6 +257,7 @@ fn hear(before: &Decoded, after: &Decoded, frame: (u32, u32, Vec<u8>), mut outpu
     let whole = on_stream(before, after, id / 4, answer, |alone| {
         let heard = alone.hear(id, dlc, &payload, &mut output);
         same("how much is written", answer.written, heard.written)?;
+        same("what the frame did", answer.told, number(heard.did))?;
         Ok(heard.reply)
     })?;
     if whole {
@@ -271,12 +291,28 @@ fn said_of(layout: &Layout, line: &str, seen: &mut Seen) -> Said {
         }
         _ => return Err(format!("{call} is no call")),
     }
-    let answer = Answer { reply: line.number()?, id: line.number()?, written: line.length()?, output: line.bytes()? };
+    let answer = Answer {
+        reply: line.number()?,
+        id: line.number()?,
+        written: line.length()?,
+        told: line.length()?,
+        dropped: line.length()?,
+        delivered: line.length()?,
+        output: line.bytes()?,
+    };
     let bytes_after = line.bytes()?;
-    if let Some(count) = seen.replies.get_mut(answer.reply as usize) {
-        *count += 1;
+    if let Some(reply) = Reply::from_number(answer.reply.into()) {
+        seen.replies[reply.place()] += 1;
     }
-    if answer.reply != Reply::Done as u32 {
+    if let Some(did) = Did::ALL.into_iter().find(|did| did.number() == answer.told) {
+        seen.deeds.count(did);
+    }
+    seen.dropping += u64::from(answer.dropped > 0);
+    seen.delivering += u64::from(answer.delivered > 0);
+    let done = answer.reply == Reply::Done as u32;
+    same("whether a frame is told to have done something", answer.told != 0, done && call == "hear")?;
+    if !done {
+        same("what a refused tick drops and delivers", (answer.dropped, answer.delivered), (0, 0))?;
         same("the bytes after a refusal", &bytes_after, &bytes)?;
         same("what a refusal writes", answer.written, 0)?;
         same("the output of a refusal", &answer.output, &output)?;

@@ -9,6 +9,7 @@ pub mod compare_calls;
 pub mod compare_harness;
 pub mod compare_recording;
 pub mod compare_sheet;
+pub mod deeds;
 pub mod demand;
 pub mod difference;
 pub mod exhaust;

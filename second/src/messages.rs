@@ -3,7 +3,7 @@
 use crate::bench::{Delivery, Outcome};
 use crate::demand::Told;
 use crate::history::{Event, Hearers};
-use crate::ident::{Code, Stream};
+use crate::ident::{code_of, Code, Stream};
 use crate::reply::Reply;
 use crate::settings::{Class, Role, Settings};
 
@@ -118,7 +118,7 @@ impl<'a> Account<'a> {
                     account.open(at, *module, *stream, payload);
                 }
                 (Event::Give { .. }, Outcome::Gave { id, .. }) => {
-                    frames.push((Code::ALL[(id.0 % 4) as usize], account.newest(Stream(id.0 / 4))));
+                    frames.push((code_of(id.0), account.newest(Stream(id.0 / 4))));
                 }
                 (Event::Send { frame, hearers }, Outcome::Heard(heard)) => {
                     let Some((code, Some(message))) = frames.get(*frame) else { continue };
@@ -138,7 +138,7 @@ impl<'a> Account<'a> {
                 (Event::Death { module }, _) => {
                     account.died[*module].get_or_insert(account.count);
                 }
-                (_, Outcome::Ticked { count, delivered }) => {
+                (_, Outcome::Ticked { count, delivered, .. }) => {
                     for delivery in delivered {
                         let message = account.newest(delivery.stream);
                         account.deliveries.push((delivery.clone(), message));

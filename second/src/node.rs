@@ -5,9 +5,9 @@ use std::collections::BTreeMap;
 
 use crate::clock::Clock;
 use crate::fault::Fault;
-use crate::ident::{own, split_by, BusId, Code, Stream};
+use crate::ident::{code_of, own, split_by, BusId, Code, Stream};
 use crate::limits::Limit;
-use crate::receiver::{Did, Fate, Happened, Receiver};
+use crate::receiver::{Did, Fate, Happened, Receiver, Taken};
 use crate::record;
 use crate::reply::Reply;
 use crate::sender::Sender;
@@ -36,19 +36,39 @@ pub enum Part {
     Receives(Receiver),
 }
 
-/// What hearing answers: the reply, the bytes written, and what it did beyond them.
+/// What hearing answers: the reply, the bytes written, and what the frame did, which is told with reply 0 alone.
 #[derive(Clone, Debug, PartialEq, Eq)]
 pub struct Heard {
     pub reply: Reply,
     pub written: usize,
-    pub did: Did,
+    pub did: Option<Did>,
+    /// Whether an abort became pending that was not pending before. It is not told.
+    pub causes_abort: bool,
 }
 
-/// What a tick answers: the reply, the bytes written, and what happened to which stream, ascending.
+impl Heard {
+    fn refused(reply: Reply) -> Heard {
+        Heard { reply, written: 0, did: None, causes_abort: false }
+    }
+
+    fn taken(taken: Taken) -> Heard {
+        Heard { reply: Reply::Done, written: 0, did: Some(taken.did), causes_abort: taken.causes_abort }
+    }
+
+    /// The answer of a mutant that does nothing with a frame.
+    fn nodded() -> Heard {
+        Heard::taken(Taken::only(Did::New))
+    }
+}
+
+/// What a tick answers: the reply, the bytes written, and how many messages it dropped and delivered.
 #[derive(Clone, Debug, PartialEq, Eq)]
 pub struct Ticked {
     pub reply: Reply,
     pub written: usize,
+    pub dropped: usize,
+    pub delivered: usize,
+    /// What happened to which stream, ascending. It is not told.
     pub happened: Vec<(Stream, Happened)>,
 }
 
@@ -173,40 +193,43 @@ impl Node {
 
     /// Hears a frame from the bus.
     pub fn hear(&mut self, id: u32, dlc: u8, payload: &[u8], output: &mut [u8]) -> Heard {
-        let answered = |reply| Heard { reply, written: 0, did: Did::Nothing };
-        if self.fault == Fault::DoesNothing {
-            return answered(Reply::Done);
+        let mut heard = self.take(id, dlc, payload, output).unwrap_or_else(Heard::refused);
+        if self.fault == Fault::RefusalTells {
+            heard.did.get_or_insert(Did::New);
         }
-        let (stream, code) = match self.frame_heard(id, dlc, payload, output.len()) {
-            Ok(frame) => frame,
-            Err(reply) => return answered(reply),
-        };
+        heard
+    }
+
+    fn take(&mut self, id: u32, dlc: u8, payload: &[u8], output: &mut [u8]) -> Result<Heard, Reply> {
+        if self.fault == Fault::DoesNothing {
+            return Ok(Heard::nodded());
+        }
+        let (stream, code) = self.frame_heard(id, dlc, payload, output.len())?;
         let (fault, clock) = (self.fault, self.clock());
         let receiver = match self.parts.get_mut(&stream) {
             Some(Part::Receives(receiver)) => receiver,
-            Some(Part::Sends(_)) if fault == Fault::SendSlotHears => return answered(Reply::Done),
-            _ => return answered(Reply::NotMine),
+            Some(Part::Sends(_)) if fault == Fault::SendSlotHears => return Ok(Heard::nodded()),
+            _ => return Err(Reply::NotMine),
         };
         if !receiver.settings.class.carries_by(fault, code) {
-            return answered(Reply::Misfit);
+            return Err(Reply::Misfit);
         }
         if fault == Fault::FirstFrameOnly && std::mem::replace(&mut self.heard_one, true) {
-            return answered(Reply::Done);
+            return Ok(Heard::nodded());
         }
-        let done = |did| Heard { reply: Reply::Done, written: 0, did };
-        match code {
+        Ok(match code {
             Code::Data if fault == Fault::HeldLengthIsDlc => {
-                answered(receiver.hear_data(&as_long_as(dlc, payload), clock))
+                Heard::taken(receiver.hear_data(&as_long_as(dlc, payload), clock)?)
             }
-            Code::Data => answered(receiver.hear_data(payload, clock)),
-            Code::Confirmation => done(receiver.hear_confirmation(clock)),
-            Code::Abort => done(receiver.hear_abort(fault)),
-            Code::Plain if fault == Fault::NeverDelivers => done(Did::Nothing),
+            Code::Data => Heard::taken(receiver.hear_data(payload, clock)?),
+            Code::Confirmation => Heard::taken(receiver.hear_confirmation(clock)),
+            Code::Abort => Heard::taken(receiver.hear_abort(fault)),
+            Code::Plain if fault == Fault::NeverDelivers => Heard::nodded(),
             Code::Plain => {
                 let written = record::put(fault, stream, payload, output);
-                Heard { reply: Reply::Done, written, did: Did::DeliveredAtOnce }
+                Heard { written, ..Heard::taken(Taken::only(Did::DeliveredAtOnce)) }
             }
-        }
+        })
     }
 
     /// The stream and code of a frame that the lent output and the frame test let through.
@@ -218,19 +241,36 @@ impl Node {
         if self.fault == Fault::MineFirst && !matches!(self.parts.get(&Stream(id / 4)), Some(Part::Receives(_))) {
             return Err(Reply::NotMine);
         }
-        let (stream, code) = split_by(self.fault, BusId(id))?;
-        let unwanted = matches!(code, Code::Confirmation | Code::Abort) && dlc != 0;
-        if self.above(usize::from(dlc), Limit::DlcMost)
-            || !self.means(dlc, payload.len())
-            || unwanted
-            || self.fault == Fault::RefusesFrames
-        {
-            return Err(Reply::BadFrame);
+        if let Some(reply) = self.fault_in(id, dlc, payload.len()) {
+            return Err(reply);
         }
         if short {
             return Err(Reply::ShortOutput);
         }
-        Ok((stream, code))
+        split_by(self.fault, BusId(id))
+    }
+
+    /// The first fault in a frame with so many bytes, if it has one.
+    fn fault_in(&self, id: u32, dlc: u8, bytes: usize) -> Option<Reply> {
+        let mut faults = [
+            (split_by(self.fault, BusId(id)).is_err(), Reply::IdentifierTooBig),
+            (self.above(usize::from(dlc), Limit::DlcMost), Reply::DlcTooBig),
+            (!self.means(dlc, bytes), Reply::PayloadLength),
+            (matches!(code_of(id), Code::Confirmation | Code::Abort) && dlc != 0, Reply::UnwantedPayload),
+        ];
+        match self.fault {
+            Fault::DlcFirst => faults.swap(0, 1),
+            Fault::UnwantedFirst => faults.swap(2, 3),
+            Fault::RefusesFrames => faults[0].0 = true,
+            _ => {}
+        }
+        let reply = faults.iter().find(|(holds, _)| *holds).map(|(_, reply)| *reply)?;
+        Some(match self.fault {
+            Fault::OneFaultOfFrames => Reply::BadFrame,
+            Fault::Swapped(one, other) if reply == one => other,
+            Fault::Swapped(one, other) if reply == other => one,
+            _ => reply,
+        })
     }
 
     /// Whether a DLC means so many bytes. ISO 11898-1 reads every DLC from 9 to 15 as eight.
@@ -245,7 +285,7 @@ impl Node {
     /// Moves the count, then drops, delivers and ends holds, by ascending stream.
     pub fn tick(&mut self, output: &mut [u8]) -> Ticked {
         let fault = self.fault;
-        let mut ticked = Ticked { reply: Reply::Done, written: 0, happened: Vec::new() };
+        let mut ticked = Ticked { reply: Reply::Done, written: 0, dropped: 0, delivered: 0, happened: Vec::new() };
         if fault == Fault::DoesNothing {
             return ticked;
         }
@@ -256,9 +296,13 @@ impl Node {
         }
         self.now += 1;
         let clock = self.clock();
+        let mut holds = 0;
         for stream in self.due(clock) {
             match self.parts.get_mut(&stream) {
-                Some(Part::Sends(sender)) => sender.held_until = None,
+                Some(Part::Sends(sender)) => {
+                    sender.held_until = None;
+                    holds += 1;
+                }
                 Some(Part::Receives(receiver)) => match receiver.fate(clock) {
                     Some(Fate::Drop) => ticked.happened.push((stream, receiver.drop_unconfirmed(fault))),
                     Some(Fate::Deliver) if fault == Fault::TickDeliversOne && ticked.written > 0 => {}
@@ -274,6 +318,17 @@ impl Node {
                 None => {}
             }
         }
+        let delivered =
+            ticked.happened.iter().filter(|(_, happened)| matches!(happened, Happened::Delivered(_))).count();
+        let dropped = ticked.happened.len() - delivered;
+        (ticked.dropped, ticked.delivered) = match fault {
+            Fault::DropsCountDelivered => (dropped + delivered, delivered),
+            Fault::DeliveredCountDrops => (dropped, delivered + dropped),
+            Fault::OneDropTold => (dropped.min(1), delivered),
+            Fault::HoldIsDrop => (dropped + holds, delivered),
+            Fault::HoldIsDelivery => (dropped, delivered + holds),
+            _ => (dropped, delivered),
+        };
         ticked
     }
 

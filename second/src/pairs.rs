@@ -156,10 +156,13 @@ fn answered(text: &[u8], answer: &str, stand: &mut Option<Stand>) -> Result<What
 }
 
 /// Whether every module that an answer names is one of so many.
-fn names_modules(outcome: &Outcome, modules: usize) -> bool {
+pub(crate) fn names_modules(outcome: &Outcome, modules: usize) -> bool {
     match outcome {
         Outcome::Heard(heard) => heard.iter().all(|hearing| hearing.module < modules),
-        Outcome::Ticked { delivered, .. } => delivered.iter().all(|delivery| delivery.module < modules),
+        Outcome::Ticked { dropped, delivered, .. } => {
+            let mut named = dropped.iter().map(|drops| drops.module).chain(delivered.iter().map(|each| each.module));
+            named.all(|module| module < modules)
+        }
         _ => true,
     }
 }

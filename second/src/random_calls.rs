@@ -92,7 +92,8 @@ impl Maker<'_> {
             50..=62 => self.wait(),
             63..=75 => self.request(),
             76..=90 => self.next(),
-            91..=93 => self.set_up(),
+            91..=92 => self.set_up(),
+            93 => self.volley(),
             94 => self.say("tally"),
             _ => self.unreadable(),
         }
@@ -207,6 +208,9 @@ impl Maker<'_> {
                 _ => self.random.draw() as u32,
             },
         };
+        if self.random.percent(6) {
+            return self.heard_at_fault(id, known);
+        }
         let payload = match code {
             1 | 2 if !self.random.percent(4) => Vec::new(),
             _ => self.payload(known),
@@ -223,6 +227,20 @@ impl Maker<'_> {
         format!("hear {id} {dlc} {} {output}", hex(&payload))
     }
 
+    /// A frame in which each fault is drawn by itself, so that several meet.
+    fn heard_at_fault(&mut self, id: u32, known: Option<usize>) -> String {
+        let payload = self.payload(known);
+        let too_big = if self.random.percent(30) { 536_870_912 } else { 0 };
+        let code = if self.random.percent(60) { self.random.pick(&[1, 2]) } else { id % 4 };
+        let dlc = match self.random.below(10) {
+            0..=2 => self.random.from(16, 255),
+            3..=5 => self.random.from(0, 15),
+            _ => payload.len() as u64,
+        };
+        let output = self.output(16);
+        format!("hear {} {dlc} {} {output}", (id - id % 4 + code) | too_big, hex(&payload))
+    }
+
     fn tick(&mut self) {
         let output = self.output(512);
         self.say(format!("tick {output}"));
@@ -233,6 +251,25 @@ impl Maker<'_> {
         self.budget = self.budget.saturating_sub(number);
         self.now += number;
         self.say(format!("ticks {number}"));
+    }
+
+    /// Data for all receivers at one tick, some of it confirmed, and then ticks one by one: some come due together.
+    fn volley(&mut self) {
+        for at in 0..self.known.len() {
+            let (asked, data) = (self.known[at].asked, self.known[at].payloads[0].clone());
+            if asked.role != 0 || asked.class == 0 {
+                continue;
+            }
+            let id = asked.stream.wrapping_mul(4);
+            self.say(format!("hear {id} {} {} 16", data.len(), hex(&data)));
+            if asked.class == 2 && self.random.percent(40) {
+                self.say(format!("hear {} 0 - 16", id.wrapping_add(1)));
+            }
+            self.known[at].touched = self.now;
+        }
+        for _ in 0..self.random.from(2, 16) {
+            self.tick();
+        }
     }
 
     /// Ticks up to a moment that matters to a stream, or a few, or very many; then often a call for that stream.

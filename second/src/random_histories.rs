@@ -134,7 +134,7 @@ impl Maker<'_> {
     fn set_up(&mut self, module: usize, asked: Asked) {
         self.lines.push(Line::SetUp { module, asked });
         let reply = self.bench.set_up(module, asked);
-        self.set_ups[reply.number()] += 1;
+        self.set_ups[reply.place()] += 1;
         if reply != Reply::Done {
             return;
         }

@@ -31,13 +31,68 @@ pub enum State {
     Delivered,
 }
 
-/// What hearing a frame did beyond its reply.
-#[derive(Clone, Copy, Debug, PartialEq, Eq)]
+/// What a frame did that was heard with reply 0, in the paper's order.
+#[derive(Clone, Copy, Debug, PartialEq, Eq, PartialOrd, Ord)]
 pub enum Did {
-    Nothing,
-    DeliveredAtOnce,
-    /// An abort became pending that was not pending before.
+    New,
+    Duplicate,
+    Confirmed,
+    ConfirmedAgain,
+    /// An abort was made pending, or is pending already.
     AbortPending,
+    Dropped,
+    NothingToDrop,
+    DeliveredAtOnce,
+}
+
+impl Did {
+    pub const ALL: [Did; 8] = [
+        Did::New,
+        Did::Duplicate,
+        Did::Confirmed,
+        Did::ConfirmedAgain,
+        Did::AbortPending,
+        Did::Dropped,
+        Did::NothingToDrop,
+        Did::DeliveredAtOnce,
+    ];
+
+    /// The number by which it is told, from 1 on; 0 tells nothing.
+    pub fn number(self) -> usize {
+        self as usize + 1
+    }
+
+    /// The word of both text formats.
+    pub fn word(self) -> &'static str {
+        match self {
+            Did::New => "new",
+            Did::Duplicate => "duplicate",
+            Did::Confirmed => "confirmed",
+            Did::ConfirmedAgain => "confirmed-again",
+            Did::AbortPending => "abort-pending",
+            Did::Dropped => "dropped",
+            Did::NothingToDrop => "nothing-to-drop",
+            Did::DeliveredAtOnce => "delivered",
+        }
+    }
+
+    pub fn from_word(word: &str) -> Option<Did> {
+        Did::ALL.into_iter().find(|did| did.word() == word)
+    }
+}
+
+/// What a receiver makes of a frame that it takes: what the frame did, and whether an abort became pending by it that
+/// was not pending before.
+#[derive(Clone, Copy, Debug, PartialEq, Eq)]
+pub(crate) struct Taken {
+    pub did: Did,
+    pub causes_abort: bool,
+}
+
+impl Taken {
+    pub(crate) fn only(did: Did) -> Taken {
+        Taken { did, causes_abort: false }
+    }
 }
 
 /// What a tick did to a held message.
@@ -105,7 +160,7 @@ impl Receiver {
         fresh
     }
 
-    pub(crate) fn hear_data(&mut self, payload: &[u8], clock: Clock) -> Reply {
+    pub(crate) fn hear_data(&mut self, payload: &[u8], clock: Clock) -> Result<Taken, Reply> {
         let replaced = match &mut self.message {
             Some(message) if message.same(payload, clock.fault) => {
                 if clock.fault != Fault::DuplicateKeepsStamp {
@@ -114,9 +169,9 @@ impl Receiver {
                 if clock.fault == Fault::DuplicateUnconfirms {
                     message.state = State::Unstable;
                 }
-                return Reply::Done;
+                return Ok(Taken::only(if clock.fault == Fault::DuplicateIsNew { Did::New } else { Did::Duplicate }));
             }
-            Some(_) if clock.fault != Fault::ClashReplaces => return Reply::Clash,
+            Some(_) if clock.fault != Fault::ClashReplaces => return Err(Reply::Clash),
             Some(_) => true,
             None => false,
         };
@@ -125,40 +180,45 @@ impl Receiver {
         message.set_times(&self.settings, clock.now);
         self.message = Some(message);
         if replaced {
-            Reply::Clash
+            Err(Reply::Clash)
         } else {
-            Reply::Done
+            Ok(Taken::only(Did::New))
         }
     }
 
-    pub(crate) fn hear_confirmation(&mut self, clock: Clock) -> Did {
+    pub(crate) fn hear_confirmation(&mut self, clock: Clock) -> Taken {
+        let fault = clock.fault;
         let Some(message) = &mut self.message else {
-            let pending = clock.fault != Fault::LoneConfirmation && self.abort(clock.fault);
-            return if pending { Did::AbortPending } else { Did::Nothing };
+            let already = self.aborts > 0;
+            let causes_abort = fault != Fault::LoneConfirmation && self.abort(fault);
+            let did = if already && fault == Fault::PendingToldOnce { Did::NothingToDrop } else { Did::AbortPending };
+            return Taken { did, causes_abort };
         };
+        let again = message.state != State::Unstable && fault != Fault::AgainIsConfirmed;
         if message.state != State::Delivered {
             message.state = State::Confirmed;
         }
-        if clock.fault == Fault::ConfirmationStamps {
+        if fault == Fault::ConfirmationStamps {
             message.set_times(&self.settings, clock.now);
         }
-        Did::Nothing
+        Taken::only(if again { Did::ConfirmedAgain } else { Did::Confirmed })
     }
 
-    pub(crate) fn hear_abort(&mut self, fault: Fault) -> Did {
+    pub(crate) fn hear_abort(&mut self, fault: Fault) -> Taken {
         if fault == Fault::AbortClearsOwn {
             self.aborts = 0;
         }
         let Some(message) = &mut self.message else {
-            let pending = fault == Fault::LoneAbort && self.abort(fault);
-            return if pending { Did::AbortPending } else { Did::Nothing };
+            return Taken { did: Did::NothingToDrop, causes_abort: fault == Fault::LoneAbort && self.abort(fault) };
         };
+        let unconfirmed = message.state == State::Unstable;
         match fault {
-            Fault::AbortSparesConfirmed if message.state == State::Confirmed => {}
+            Fault::AbortSparesConfirmed if !unconfirmed => {}
             Fault::AgeAlone => message.state = State::Failed,
             _ => self.message = None,
         }
-        Did::Nothing
+        let told = unconfirmed || fault != Fault::ConfirmedDropUntold;
+        Taken::only(if told { Did::Dropped } else { Did::NothingToDrop })
     }
 
     pub(crate) fn drop_unconfirmed(&mut self, fault: Fault) -> Happened {

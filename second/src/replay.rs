@@ -170,7 +170,7 @@ impl Player {
             self.tick_to(record.counter);
         }
         let heard = self.node.hear(record.id, record.dlc, &record.payload, &mut [0; HEAR_OUTPUT]);
-        if heard.did == Did::DeliveredAtOnce && self.wrong != Wrong::PlainLost {
+        if heard.did == Some(Did::DeliveredAtOnce) && self.wrong != Wrong::PlainLost {
             let tick = match self.wrong {
                 Wrong::PlainTickLater => self.node.now() + 1,
                 Wrong::PlainTickBefore => before,

@@ -16,12 +16,17 @@ pub enum Reply {
     BadLength = 10,
     ShortOutput = 11,
     Nothing = 12,
+    IdentifierTooBig = 18,
+    DlcTooBig = 19,
+    PayloadLength = 20,
+    UnwantedPayload = 21,
 }
 
-/// How many reply numbers there are.
-pub const REPLIES: usize = 13;
+/// How many replies there are. Their numbers have a gap: 13 to 17 are not a node's.
+pub const REPLIES: usize = 17;
 
 impl Reply {
+    /// Every reply, by ascending number: the order of the tally.
     pub const ALL: [Reply; REPLIES] = [
         Reply::Done,
         Reply::BadSettings,
@@ -36,10 +41,19 @@ impl Reply {
         Reply::BadLength,
         Reply::ShortOutput,
         Reply::Nothing,
+        Reply::IdentifierTooBig,
+        Reply::DlcTooBig,
+        Reply::PayloadLength,
+        Reply::UnwantedPayload,
     ];
 
     pub fn number(self) -> usize {
         self as usize
+    }
+
+    /// Where the reply stands among all, and its count in the tally.
+    pub fn place(self) -> usize {
+        Reply::ALL.partition_point(|other| *other < self)
     }
 
     pub fn from_number(number: u64) -> Option<Reply> {
@@ -47,7 +61,7 @@ impl Reply {
     }
 }
 
-/// A count per reply number since the start; a count stays at its most once there.
+/// A count per reply since the start, by place; a count stays at its most once there.
 #[derive(Clone, Debug, Default, PartialEq, Eq)]
 pub struct Tally {
     counts: [u32; REPLIES],
@@ -55,7 +69,7 @@ pub struct Tally {
 
 impl Tally {
     pub fn count(&mut self, reply: Reply) {
-        let count = &mut self.counts[reply.number()];
+        let count = &mut self.counts[reply.place()];
         *count = count.saturating_add(1);
     }
 
@@ -79,10 +93,12 @@ mod tests {
 
     #[test]
     fn numbers_and_replies_agree() {
-        for (number, reply) in Reply::ALL.into_iter().enumerate() {
-            assert_eq!(reply.number(), number);
-            assert_eq!(Reply::from_number(number as u64), Some(reply));
+        let numbers: Vec<usize> = (0..=12).chain(18..=21).collect();
+        assert_eq!(Reply::ALL.map(Reply::number).to_vec(), numbers);
+        for (place, reply) in Reply::ALL.into_iter().enumerate() {
+            assert_eq!(reply.place(), place);
+            assert_eq!(Reply::from_number(reply.number() as u64), Some(reply));
         }
-        assert_eq!(Reply::from_number(13), None);
+        assert!((13..=17).chain([22]).all(|number| Reply::from_number(number).is_none()));
     }
 }

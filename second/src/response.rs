@@ -213,7 +213,7 @@ impl Sheet<'_> {
     fn late(&self, times: &[Option<u64>]) -> Option<usize> {
         let mut late = (0..times.len()).filter(|at| times[*at].is_none());
         let at = match self.wrong {
-            Wrong::LastLate => late.last(),
+            Wrong::LastLate => late.next_back(),
             Wrong::LatePriority => late.min_by_key(|at| self.streams[*at].priority),
             _ => late.next(),
         };

@@ -5,6 +5,7 @@ use crate::demand::Told;
 use crate::fault::Fault;
 use crate::harness::{read_answer, skipped, write_line, Harness};
 use crate::history::{Event, Line};
+use crate::pairs::names_modules;
 use crate::reply::Reply;
 use crate::rules::{Judge, Verdict};
 use crate::settings::Settings;
@@ -37,11 +38,7 @@ pub fn told(lines: &[Line], answers: &[String], fault: Fault) -> Option<Told> {
             _ => {}
         }
     }
-    let on_bench = |outcome: &Outcome| match outcome {
-        Outcome::Ticked { delivered, .. } => delivered.iter().all(|delivery| delivery.module < told.modules),
-        _ => true,
-    };
-    told.events.iter().all(|(_, outcome)| on_bench(outcome)).then_some(told)
+    told.events.iter().all(|(_, outcome)| names_modules(outcome, told.modules)).then_some(told)
 }
 
 /// Judges a script that begins with `modules`, as this implementation runs it.

@@ -37,10 +37,16 @@ fn every_dlc_with_every_length() {
                 _ => false,
             };
             for id in [DATA, CONFIRMATION, ABORT, PLAIN] {
-                let taken = fits && (dlc == 0 || id == DATA || id == PLAIN);
-                let due = if taken { Reply::Done } else { Reply::BadFrame };
+                let due = match dlc {
+                    16.. => Reply::DlcTooBig,
+                    _ if !fits => Reply::PayloadLength,
+                    1.. if id == CONFIRMATION || id == ABORT => Reply::UnwantedPayload,
+                    _ => Reply::Done,
+                };
                 let heard = hear(&mut receiver(Fault::None), id, dlc, &payload);
                 assert_eq!(heard, due, "identifier {id}, DLC {dlc}, {length} bytes");
+                let heard = hear(&mut receiver(Fault::None), id + 536_870_912, dlc, &payload);
+                assert_eq!(heard, Reply::IdentifierTooBig, "identifier {id}, too big, DLC {dlc}, {length} bytes");
             }
         }
     }
@@ -72,15 +78,41 @@ fn a_plain_frame_of_dlc_15_is_delivered_with_eight_bytes() {
     assert_eq!(output, record);
 }
 
+/// A frame with several faults is answered by the first of them, after a short output and before a stream that is not
+/// the node's.
+#[test]
+fn the_order_of_the_faults() {
+    const TOO_BIG: u32 = 536_870_912 + ABORT;
+    const OTHER: u32 = ABORT + 40;
+    for (fault, id, dlc, length, due) in [
+        (Fault::None, TOO_BIG, 16, 1, Reply::IdentifierTooBig),
+        (Fault::DlcFirst, TOO_BIG, 16, 1, Reply::DlcTooBig),
+        (Fault::None, OTHER, 16, 1, Reply::DlcTooBig),
+        (Fault::None, OTHER, 15, 1, Reply::PayloadLength),
+        (Fault::UnwantedFirst, OTHER, 15, 1, Reply::UnwantedPayload),
+        (Fault::None, OTHER, 15, 8, Reply::UnwantedPayload),
+        (Fault::None, OTHER, 0, 0, Reply::NotMine),
+        (Fault::MineFirst, OTHER, 15, 8, Reply::NotMine),
+        (Fault::Swapped(Reply::DlcTooBig, Reply::UnwantedPayload), OTHER, 15, 8, Reply::DlcTooBig),
+        (Fault::Swapped(Reply::DlcTooBig, Reply::UnwantedPayload), OTHER, 16, 8, Reply::UnwantedPayload),
+        (Fault::OneFaultOfFrames, OTHER, 15, 8, Reply::BadFrame),
+    ] {
+        let payload = vec![0; length];
+        assert_eq!(hear(&mut receiver(fault), id, dlc, &payload), due, "identifier {id}, DLC {dlc}, {length} bytes");
+        let short = receiver(fault).hear(id, dlc, &payload, &mut [0; HEAR_OUTPUT - 1]);
+        assert_eq!(short.reply, Reply::ShortOutput);
+    }
+}
+
 /// What a mutant answers where the faultless node answers otherwise.
 #[test]
 fn what_the_mutants_of_the_frame_test_do() {
     let answers = |fault, dlc, length| hear(&mut receiver(fault), DATA, dlc, &vec![0; length]);
     assert_eq!(answers(Fault::Limit(Limit::DlcMost, Off::Higher), 16, 8), Reply::Done);
-    assert_eq!(answers(Fault::Limit(Limit::DlcMost, Off::Lower), 15, 8), Reply::BadFrame);
-    assert_eq!(answers(Fault::Limit(Limit::DlcBytes, Off::Higher), 9, 8), Reply::BadFrame);
-    assert_eq!(answers(Fault::Limit(Limit::DlcBytes, Off::Lower), 8, 8), Reply::BadFrame);
-    assert_eq!(answers(Fault::DlcAboveEight, 9, 8), Reply::BadFrame);
+    assert_eq!(answers(Fault::Limit(Limit::DlcMost, Off::Lower), 15, 8), Reply::DlcTooBig);
+    assert_eq!(answers(Fault::Limit(Limit::DlcBytes, Off::Higher), 9, 8), Reply::PayloadLength);
+    assert_eq!(answers(Fault::Limit(Limit::DlcBytes, Off::Lower), 8, 8), Reply::PayloadLength);
+    assert_eq!(answers(Fault::DlcAboveEight, 9, 8), Reply::PayloadLength);
     assert_eq!(answers(Fault::NineBytes, 9, 9), Reply::Done);
     let mut node = receiver(Fault::HeldLengthIsDlc);
     assert_eq!(hear(&mut node, DATA, 15, &[0; 8]), Reply::Done);

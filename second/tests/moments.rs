@@ -2,7 +2,7 @@
 
 use second::ident::{join, split, BusId, Code, Stream};
 use second::node::{Node, HEAR_OUTPUT, NEXT_OUTPUT, TICK_OUTPUT};
-use second::receiver::Happened;
+use second::receiver::{Did, Happened};
 use second::reply::Reply;
 use second::settings::Asked;
 
@@ -37,6 +37,13 @@ fn tick_to(node: &mut Node, count: u64) -> Vec<(u64, Happened)> {
 
 fn hear(node: &mut Node, id: u32, payload: &[u8]) -> Reply {
     node.hear(id, payload.len() as u8, payload, &mut [0; HEAR_OUTPUT]).reply
+}
+
+/// What a frame did, the reply being 0.
+fn did(node: &mut Node, id: u32, payload: &[u8]) -> &'static str {
+    let heard = node.hear(id, payload.len() as u8, payload, &mut [0; HEAR_OUTPUT]);
+    assert_eq!(heard.reply, Reply::Done);
+    heard.did.map_or("-", Did::word)
 }
 
 fn next(node: &mut Node) -> (Reply, u32) {
@@ -189,4 +196,59 @@ fn deliveries_of_one_tick_ascend_by_stream() {
     assert_eq!(ticked.written, 27);
     assert_eq!([output[4], output[13], output[22]], [2, 5, 9]);
     assert!(output[27..].iter().all(|byte| *byte == 0xee));
+}
+
+#[test]
+fn what_frames_did() {
+    let mut node = receiver();
+    for (id, payload, due) in [
+        (ABORT, &[][..], "nothing-to-drop"),
+        (CONFIRMATION, &[], "abort-pending"),
+        (CONFIRMATION, &[], "abort-pending"),
+        (DATA, &[1], "new"),
+        (DATA, &[1], "duplicate"),
+        (CONFIRMATION, &[], "confirmed"),
+        (DATA, &[1], "duplicate"),
+        (CONFIRMATION, &[], "confirmed-again"),
+        (ABORT, &[], "dropped"),
+        (ABORT, &[], "nothing-to-drop"),
+        (DATA, &[2], "new"),
+        (ABORT, &[], "dropped"),
+    ] {
+        assert_eq!(did(&mut node, id, payload), due);
+    }
+    assert_eq!(next(&mut node), (Reply::Done, ABORT));
+    let refused = node.hear(DATA + 4, 0, &[], &mut [0; HEAR_OUTPUT]);
+    assert_eq!((refused.reply, refused.did), (Reply::NotMine, None));
+}
+
+#[test]
+fn what_ticks_did() {
+    let mut node = Node::fresh();
+    for (stream, role, class) in [(1, 0, 2), (2, 0, 2), (3, 0, 1), (4, 1, 1), (5, 0, 1)] {
+        let two = class == 2;
+        let (confirm_delay, abort_reach, deliver_delay) = if two { (3, 2, 6) } else { (0, 0, 3) };
+        let data_reach = if role == 1 { 1 } else { 2 };
+        let asked = Asked { stream, role, class, data_reach, confirm_delay, abort_reach, deliver_delay };
+        assert_eq!(node.set_up(asked), Reply::Done);
+    }
+    for stream in [1, 2, 3, 5] {
+        assert_eq!(did(&mut node, stream * 4, &[1]), "new");
+    }
+    let told = |node: &mut Node| {
+        let ticked = node.tick(&mut [0; TICK_OUTPUT]);
+        (ticked.reply, ticked.dropped, ticked.delivered)
+    };
+    assert_eq!(did(&mut node, 9, &[]), "confirmed");
+    assert_eq!(node.request(4, &[]), Reply::Done);
+    for _ in 0..3 {
+        assert_eq!(told(&mut node), (Reply::Done, 0, 0));
+    }
+    assert_eq!(node.tick(&mut [0; TICK_OUTPUT - 1]).dropped, 0);
+    // Stream 1 is unconfirmed; 3 and 5 are IMD; 2 is confirmed, and waits for its dd.
+    assert_eq!(told(&mut node), (Reply::Done, 1, 2));
+    // The end of the sender's hold is neither.
+    assert_eq!(told(&mut node), (Reply::Done, 0, 0));
+    assert_eq!(told(&mut node), (Reply::Done, 0, 0));
+    assert_eq!(told(&mut node), (Reply::Done, 0, 1));
 }

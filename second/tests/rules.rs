@@ -40,7 +40,7 @@ fn moment_10() {
                   ticks 2; ticks 2; give 2; full 2; ticks 3";
     let lines = script(events);
     assert_eq!(breaks_of(&lines), []);
-    assert_eq!(last_answers(&lines, 5), ["14", "16", "0 2 22 -", "1:0", "19"]);
+    assert_eq!(last_answers(&lines, 5), ["14 14:2:dropped:1", "16", "0 2 22 -", "1:0:dropped", "19"]);
     let mut looked = Looked::default();
     assert_eq!(check_messages(&telling(&lines), |_| true, &mut looked), []);
     assert_eq!((looked.all, looked.none, looked.full), (0, 1, 0));

@@ -231,13 +231,17 @@ static void set_up_numbers(void)
         }
 }
 
-/* A frame with this DLC and so many bytes, as a node answers it that receives stream 5 as two-message. */
+/* A frame with this DLC and so many bytes, as a node answers it that receives stream 5 as two-message; a refusal tells nothing. */
 static uint32_t heard(struct kosmydore_node receiver, uint32_t id, uint32_t dlc, size_t bytes)
 {
     const uint8_t payload[16] = {1, 2, 3, 4, 5, 6, 7, 8, 9};
     uint8_t output[KOSMYDORE_HEAR_OUTPUT];
+    struct kosmydore_heard answer;
 
-    return kosmydore_hear(receiver, id, dlc, payload, bytes, output, sizeof output).reply;
+    answer = kosmydore_hear(receiver, id, dlc, payload, bytes, output, sizeof output);
+    SAME(answer.told == KOSMYDORE_TOLD_NOTHING, answer.reply != KOSMYDORE_DONE);
+    SAME(answer.written, 0);
+    return answer.reply;
 }
 
 /* DLC 9 to 15 mean eight bytes, also in what is held, and are duplicates of each other and of DLC 8. */
@@ -247,7 +251,7 @@ static void dlcs(void)
     uint8_t output[KOSMYDORE_HEAR_OUTPUT];
     struct kosmydore_settings settings;
     struct kosmydore_node receiver;
-    struct kosmydore_delivered first;
+    struct kosmydore_heard first;
     uint32_t dlc, other;
 
     settings.role = KOSMYDORE_RECEIVE;
@@ -260,26 +264,34 @@ static void dlcs(void)
     for (dlc = 8; dlc <= KOSMYDORE_MAX_DLC; dlc++) {
         first = kosmydore_hear(receiver, 20, dlc, payload, KOSMYDORE_MAX_PAYLOAD, output, sizeof output);
         SAME(first.reply, KOSMYDORE_DONE);
+        SAME(first.told, KOSMYDORE_TOLD_NEW);
         SAME(first.node.slots[0].message.length, KOSMYDORE_MAX_PAYLOAD);
         for (other = 8; other <= KOSMYDORE_MAX_DLC; other++)
             SAME(heard(first.node, 20, other, KOSMYDORE_MAX_PAYLOAD), KOSMYDORE_DONE);
         SAME(heard(first.node, 20, 7, 7), KOSMYDORE_CLASH);
-        SAME(heard(receiver, 20, dlc, 7), KOSMYDORE_BAD_FRAME);
-        SAME(heard(receiver, 20, dlc, 9), KOSMYDORE_BAD_FRAME);
-        SAME(heard(receiver, 21, dlc, KOSMYDORE_MAX_PAYLOAD), KOSMYDORE_BAD_FRAME);
-        SAME(heard(receiver, 22, dlc, KOSMYDORE_MAX_PAYLOAD), KOSMYDORE_BAD_FRAME);
+        SAME(heard(receiver, 20, dlc, 7), KOSMYDORE_PAYLOAD_LENGTH);
+        SAME(heard(receiver, 20, dlc, 9), KOSMYDORE_PAYLOAD_LENGTH);
+        SAME(heard(receiver, 21, dlc, KOSMYDORE_MAX_PAYLOAD), KOSMYDORE_UNWANTED_PAYLOAD);
+        SAME(heard(receiver, 22, dlc, KOSMYDORE_MAX_PAYLOAD), KOSMYDORE_UNWANTED_PAYLOAD);
     }
-    SAME(heard(receiver, 20, KOSMYDORE_MAX_DLC, KOSMYDORE_MAX_DLC), KOSMYDORE_BAD_FRAME);
-    SAME(heard(receiver, 20, KOSMYDORE_MAX_DLC + 1, KOSMYDORE_MAX_PAYLOAD), KOSMYDORE_BAD_FRAME);
-    SAME(heard(receiver, 20, KOSMYDORE_MAX_DLC + 1, KOSMYDORE_MAX_DLC + 1), KOSMYDORE_BAD_FRAME);
-    SAME(heard(receiver, 20, 255, KOSMYDORE_MAX_PAYLOAD), KOSMYDORE_BAD_FRAME);
-    SAME(heard(receiver, 20, 256, 0), KOSMYDORE_BAD_FRAME);
-    SAME(heard(receiver, 20, 264, KOSMYDORE_MAX_PAYLOAD), KOSMYDORE_BAD_FRAME);
-    SAME(heard(receiver, 20, 271, KOSMYDORE_MAX_PAYLOAD), KOSMYDORE_BAD_FRAME);
-    SAME(heard(receiver, 20, 65544, KOSMYDORE_MAX_PAYLOAD), KOSMYDORE_BAD_FRAME);
-    SAME(heard(receiver, 21, 256, 0), KOSMYDORE_BAD_FRAME);
-    SAME(heard(receiver, 20, TOP, KOSMYDORE_MAX_PAYLOAD), KOSMYDORE_BAD_FRAME);
-    SAME(heard(receiver, 20, 7, KOSMYDORE_MAX_PAYLOAD), KOSMYDORE_BAD_FRAME);
+    SAME(heard(receiver, 20, KOSMYDORE_MAX_DLC, KOSMYDORE_MAX_DLC), KOSMYDORE_PAYLOAD_LENGTH);
+    SAME(heard(receiver, 20, KOSMYDORE_MAX_DLC + 1, KOSMYDORE_MAX_PAYLOAD), KOSMYDORE_DLC_TOO_BIG);
+    SAME(heard(receiver, 20, KOSMYDORE_MAX_DLC + 1, KOSMYDORE_MAX_DLC + 1), KOSMYDORE_DLC_TOO_BIG);
+    SAME(heard(receiver, 20, 255, KOSMYDORE_MAX_PAYLOAD), KOSMYDORE_DLC_TOO_BIG);
+    SAME(heard(receiver, 20, 256, 0), KOSMYDORE_DLC_TOO_BIG);
+    SAME(heard(receiver, 20, 264, KOSMYDORE_MAX_PAYLOAD), KOSMYDORE_DLC_TOO_BIG);
+    SAME(heard(receiver, 20, 271, KOSMYDORE_MAX_PAYLOAD), KOSMYDORE_DLC_TOO_BIG);
+    SAME(heard(receiver, 20, 65544, KOSMYDORE_MAX_PAYLOAD), KOSMYDORE_DLC_TOO_BIG);
+    SAME(heard(receiver, 21, 256, 0), KOSMYDORE_DLC_TOO_BIG);
+    SAME(heard(receiver, 20, TOP, KOSMYDORE_MAX_PAYLOAD), KOSMYDORE_DLC_TOO_BIG);
+    SAME(heard(receiver, 20, 7, KOSMYDORE_MAX_PAYLOAD), KOSMYDORE_PAYLOAD_LENGTH);
+    SAME(heard(receiver, KOSMYDORE_MAX_BUS_ID + 2, 256, 1), KOSMYDORE_IDENTIFIER_TOO_BIG);
+    SAME(heard(receiver, TOP, 0, 0), KOSMYDORE_IDENTIFIER_TOO_BIG);
+    SAME(heard(receiver, KOSMYDORE_MAX_BUS_ID, 0, 0), KOSMYDORE_NOT_MINE);
+    SAME(heard(receiver, 21, KOSMYDORE_MAX_DLC + 1, 1), KOSMYDORE_DLC_TOO_BIG);
+    SAME(heard(receiver, 21, 1, 0), KOSMYDORE_PAYLOAD_LENGTH);
+    SAME(heard(receiver, 21, 0, 1), KOSMYDORE_PAYLOAD_LENGTH);
+    SAME(heard(receiver, 25, 1, 1), KOSMYDORE_UNWANTED_PAYLOAD);
     SAME(heard(receiver, 20, 7, 7), KOSMYDORE_DONE);
 }
 
@@ -351,6 +363,28 @@ static void counted(int line, const char *call, uint32_t reply, uint32_t expecte
 
 #define COUNTED(call, expected, room) (was = lent, counted(__LINE__, #call, (call), (expected), (room)))
 
+/* The same of a frame, with what it is told to have done, and of a tick, with how much it is told to have dropped and delivered. */
+static void hears(int line, struct kosmydore_module_heard heard, uint32_t reply, uint32_t told, size_t written)
+{
+    counted(line, "hear", heard.reply, reply, written);
+    same(line, "what the frame did", heard.told, told);
+    same(line, "what hear wrote", (uint32_t)heard.written, (uint32_t)written);
+}
+
+static void ticks(int line, struct kosmydore_module_ticked ticked, uint32_t reply, uint32_t dropped, uint32_t delivered, size_t written)
+{
+    counted(line, "tick", ticked.reply, reply, written);
+    same(line, "what the tick dropped", ticked.dropped, dropped);
+    same(line, "what the tick delivered", ticked.delivered, delivered);
+    same(line, "what the tick wrote", (uint32_t)ticked.written, (uint32_t)written);
+}
+
+#define HEARS(id, dlc, length, room, reply, told) \
+    (was = lent, hears(__LINE__, kosmydore_module_hear(NODE, id, dlc, payload, length, OUTPUT(room), TALLY), reply, told, 0))
+#define HEAR_REFUSED(id, dlc, length, room, reply) HEARS(id, dlc, length, room, reply, KOSMYDORE_TOLD_NOTHING)
+#define TICKS(room, reply, dropped, delivered, written) \
+    (was = lent, ticks(__LINE__, kosmydore_module_tick(NODE, OUTPUT(room), TALLY), reply, dropped, delivered, written))
+
 static struct kosmydore_settings two_message_of(uint32_t role)
 {
     struct kosmydore_settings settings;
@@ -370,7 +404,6 @@ static void lent_node(void)
     const size_t other_lengths[] = {0, 1, KOSMYDORE_NODE_BYTES - 1, KOSMYDORE_NODE_BYTES + 1, KOSMYDORE_NODE_SIZE};
     struct kosmydore_settings settings = two_message_of(KOSMYDORE_RECEIVE);
     struct kosmydore_given_out given;
-    struct kosmydore_written heard;
     uint32_t stream;
     size_t i;
 
@@ -382,8 +415,8 @@ static void lent_node(void)
         SAME(kosmydore_module_fresh(NODE), KOSMYDORE_BAD_LENGTH);
         SAME(changed(&lent, &was, sizeof lent), 0);
         COUNTED(kosmydore_module_set_up(NODE, 5, settings, TALLY), KOSMYDORE_BAD_LENGTH, 0);
-        COUNTED(kosmydore_module_hear(NODE, 20, 0, payload, 0, OUTPUT(KOSMYDORE_HEAR_OUTPUT), TALLY).reply, KOSMYDORE_BAD_LENGTH, 0);
-        COUNTED(kosmydore_module_tick(NODE, OUTPUT(KOSMYDORE_TICK_OUTPUT), TALLY).reply, KOSMYDORE_BAD_LENGTH, 0);
+        HEAR_REFUSED(20, 0, 0, KOSMYDORE_HEAR_OUTPUT, KOSMYDORE_BAD_LENGTH);
+        TICKS(KOSMYDORE_TICK_OUTPUT, KOSMYDORE_BAD_LENGTH, 0, 0, 0);
         COUNTED(kosmydore_module_request(NODE, 5, payload, 0, TALLY), KOSMYDORE_BAD_LENGTH, 0);
         COUNTED(kosmydore_module_next_frame(NODE, OUTPUT(KOSMYDORE_NEXT_FRAME_OUTPUT), TALLY).reply, KOSMYDORE_BAD_LENGTH, 0);
     }
@@ -399,22 +432,22 @@ static void lent_node(void)
     COUNTED(kosmydore_module_set_up(NODE, KOSMYDORE_MAX_STREAM + 1, settings, TALLY), KOSMYDORE_BAD_SETTINGS, 0);
     COUNTED(kosmydore_module_set_up(NODE, 5, settings, TALLY), KOSMYDORE_DONE, 0);
     COUNTED(kosmydore_module_set_up(NODE, 5, settings, TALLY), KOSMYDORE_TAKEN, 0);
-    COUNTED(kosmydore_module_hear(NODE, 20, 271, payload, 8, OUTPUT(KOSMYDORE_HEAR_OUTPUT), TALLY).reply, KOSMYDORE_BAD_FRAME, 0);
-    COUNTED(kosmydore_module_hear(NODE, 20, 264, payload, 8, OUTPUT(KOSMYDORE_HEAR_OUTPUT), TALLY).reply, KOSMYDORE_BAD_FRAME, 0);
-    COUNTED(kosmydore_module_hear(NODE, 20, TOP, payload, 8, OUTPUT(KOSMYDORE_HEAR_OUTPUT), TALLY).reply, KOSMYDORE_BAD_FRAME, 0);
+    HEAR_REFUSED(20, 271, 8, KOSMYDORE_HEAR_OUTPUT, KOSMYDORE_DLC_TOO_BIG);
+    HEAR_REFUSED(20, 264, 8, KOSMYDORE_HEAR_OUTPUT, KOSMYDORE_DLC_TOO_BIG);
+    HEAR_REFUSED(20, TOP, 8, KOSMYDORE_HEAR_OUTPUT, KOSMYDORE_DLC_TOO_BIG);
+    HEAR_REFUSED(TOP, TOP, 8, KOSMYDORE_HEAR_OUTPUT, KOSMYDORE_IDENTIFIER_TOO_BIG);
+    HEAR_REFUSED(21, 9, 7, KOSMYDORE_HEAR_OUTPUT, KOSMYDORE_PAYLOAD_LENGTH);
+    HEAR_REFUSED(21, 9, 8, KOSMYDORE_HEAR_OUTPUT, KOSMYDORE_UNWANTED_PAYLOAD);
 
     /* rooms, and a message from its data to its record */
-    COUNTED(kosmydore_module_hear(NODE, 20, 8, payload, 8, OUTPUT(KOSMYDORE_HEAR_OUTPUT - 1), TALLY).reply, KOSMYDORE_SHORT_OUTPUT, 0);
-    COUNTED(kosmydore_module_hear(NODE, 20, 15, payload, 8, OUTPUT(KOSMYDORE_HEAR_OUTPUT), TALLY).reply, KOSMYDORE_DONE, 0);
-    COUNTED(kosmydore_module_hear(NODE, 20, 7, payload, 7, OUTPUT(KOSMYDORE_HEAR_OUTPUT), TALLY).reply, KOSMYDORE_CLASH, 0);
-    COUNTED(kosmydore_module_hear(NODE, 21, 0, payload, 0, OUTPUT(KOSMYDORE_HEAR_OUTPUT), TALLY).reply, KOSMYDORE_DONE, 0);
-    COUNTED(kosmydore_module_tick(NODE, OUTPUT(KOSMYDORE_TICK_OUTPUT - 1), TALLY).reply, KOSMYDORE_SHORT_OUTPUT, 0);
+    HEAR_REFUSED(20, 8, 8, KOSMYDORE_HEAR_OUTPUT - 1, KOSMYDORE_SHORT_OUTPUT);
+    HEARS(20, 15, 8, KOSMYDORE_HEAR_OUTPUT, KOSMYDORE_DONE, KOSMYDORE_TOLD_NEW);
+    HEAR_REFUSED(20, 7, 7, KOSMYDORE_HEAR_OUTPUT, KOSMYDORE_CLASH);
+    HEARS(21, 0, 0, KOSMYDORE_HEAR_OUTPUT, KOSMYDORE_DONE, KOSMYDORE_TOLD_CONFIRMED);
+    TICKS(KOSMYDORE_TICK_OUTPUT - 1, KOSMYDORE_SHORT_OUTPUT, 0, 0, 0);
     for (i = 0; i < 6; i++)
-        COUNTED(kosmydore_module_tick(NODE, OUTPUT(KOSMYDORE_TICK_OUTPUT), TALLY).reply, KOSMYDORE_DONE, 0);
-    was = lent;
-    heard = kosmydore_module_tick(NODE, OUTPUT(KOSMYDORE_TICK_OUTPUT), TALLY);
-    counted(__LINE__, "tick", heard.reply, KOSMYDORE_DONE, 16);
-    SAME(heard.written, 16);
+        TICKS(KOSMYDORE_TICK_OUTPUT, KOSMYDORE_DONE, 0, 0, 0);
+    TICKS(KOSMYDORE_TICK_OUTPUT, KOSMYDORE_DONE, 0, 1, 16);
     SAME(lent.output[EDGE], 14);
     SAME(changed(lent.output + EDGE + 8, payload, 8), 0);
 
@@ -446,15 +479,176 @@ static void lent_node(void)
     lent.tally_length = KOSMYDORE_TALLY_SIZE - 1;
     COUNTED(kosmydore_module_set_up(NODE, stream, settings, TALLY), KOSMYDORE_TABLE_FULL, 0);
     lent.tally_length = KOSMYDORE_TALLY_SIZE + 1;
-    COUNTED(kosmydore_module_tick(NODE, OUTPUT(KOSMYDORE_TICK_OUTPUT), TALLY).reply, KOSMYDORE_DONE, 0);
+    TICKS(KOSMYDORE_TICK_OUTPUT, KOSMYDORE_DONE, 0, 0, 0);
     lent.tally_length = 0;
     COUNTED(kosmydore_module_next_frame(NODE, OUTPUT(KOSMYDORE_NEXT_FRAME_OUTPUT), TALLY).reply, KOSMYDORE_NOTHING, 0);
     lent.tally_length = KOSMYDORE_TALLY_SIZE;
     for (i = 0; i < KOSMYDORE_TALLY_SIZE; i++)
         lent.counts[EDGE + i] = TOP - 1;
     for (i = 0; i < 3; i++)
-        COUNTED(kosmydore_module_tick(NODE, OUTPUT(KOSMYDORE_TICK_OUTPUT), TALLY).reply, KOSMYDORE_DONE, 0);
+        TICKS(KOSMYDORE_TICK_OUTPUT, KOSMYDORE_DONE, 0, 0, 0);
     SAME(lent.counts[EDGE], TOP);
+}
+
+/* ---- what a frame did, and what a tick dropped and delivered, in both forms side by side ---- */
+static const uint8_t told_payload[KOSMYDORE_MAX_PAYLOAD] = {1, 2, 3, 4, 5, 6, 7, 8};
+static struct kosmydore_node by_value;
+
+static void begin(void)
+{
+    lend();
+    SAME(kosmydore_module_fresh(NODE), KOSMYDORE_DONE);
+    by_value = kosmydore_fresh();
+}
+
+static void has(uint32_t stream, struct kosmydore_settings settings)
+{
+    const struct kosmydore_answered set = kosmydore_set_up(by_value, stream, settings);
+
+    SAME(set.reply, KOSMYDORE_DONE);
+    by_value = set.node;
+    COUNTED(kosmydore_module_set_up(NODE, stream, settings, TALLY), KOSMYDORE_DONE, 0);
+}
+
+static struct kosmydore_settings settings_of(uint32_t role, uint32_t class_, uint32_t data_reach, uint32_t deliver_delay)
+{
+    struct kosmydore_settings settings;
+
+    settings.role = role;
+    settings.class_ = class_;
+    settings.data_reach = data_reach;
+    settings.confirm_delay = 0;
+    settings.abort_reach = 0;
+    settings.deliver_delay = deliver_delay;
+    return settings;
+}
+
+/* A frame with as many bytes as its DLC says; only what is delivered at once is written. */
+static void told(int line, uint32_t id, uint32_t dlc, size_t room, uint32_t reply, uint32_t expected)
+{
+    const size_t written = expected == KOSMYDORE_TOLD_DELIVERED ? 8 + (size_t)dlc : 0;
+    uint8_t output[KOSMYDORE_TICK_OUTPUT];
+    const struct kosmydore_heard heard = kosmydore_hear(by_value, id, dlc, told_payload, dlc, output, room);
+
+    by_value = heard.node;
+    same(line, "the reply by value", heard.reply, reply);
+    same(line, "what the frame did by value", heard.told, expected);
+    same(line, "what hear wrote by value", (uint32_t)heard.written, (uint32_t)written);
+    was = lent;
+    hears(line, kosmydore_module_hear(NODE, id, dlc, told_payload, dlc, OUTPUT(room), TALLY), reply, expected, written);
+}
+
+#define TOLD(id, dlc, expected) told(__LINE__, id, dlc, KOSMYDORE_HEAR_OUTPUT, KOSMYDORE_DONE, KOSMYDORE_TOLD_##expected)
+#define TOLD_NOTHING(id, dlc, room, reply) told(__LINE__, id, dlc, room, reply, KOSMYDORE_TOLD_NOTHING)
+
+/* A tick; each message that it delivers has eight bytes. */
+static void counts(int line, size_t room, uint32_t reply, uint32_t dropped, uint32_t delivered)
+{
+    uint8_t output[KOSMYDORE_TICK_OUTPUT];
+    const struct kosmydore_ticked ticked = kosmydore_tick(by_value, output, room);
+
+    by_value = ticked.node;
+    same(line, "the reply by value", ticked.reply, reply);
+    same(line, "what the tick dropped by value", ticked.dropped, dropped);
+    same(line, "what the tick delivered by value", ticked.delivered, delivered);
+    same(line, "what the tick wrote by value", (uint32_t)ticked.written, 16 * delivered);
+    was = lent;
+    ticks(line, kosmydore_module_tick(NODE, OUTPUT(room), TALLY), reply, dropped, delivered, 16 * delivered);
+}
+
+#define COUNTS(dropped, delivered) counts(__LINE__, KOSMYDORE_TICK_OUTPUT, KOSMYDORE_DONE, dropped, delivered)
+
+static void requested(int line, uint32_t stream, uint32_t reply)
+{
+    const struct kosmydore_answered asked = kosmydore_request(by_value, stream, told_payload, sizeof told_payload);
+
+    by_value = asked.node;
+    same(line, "the reply by value", asked.reply, reply);
+    same(line, "the reply", kosmydore_module_request(NODE, stream, told_payload, sizeof told_payload, TALLY), reply);
+}
+
+static void gives(int line, uint32_t id)
+{
+    uint8_t output[KOSMYDORE_NEXT_FRAME_OUTPUT];
+    const struct kosmydore_given given = kosmydore_next_frame(by_value, output, sizeof output);
+
+    by_value = given.node;
+    same(line, "the frame by value", given.id, id);
+    same(line, "the frame", kosmydore_module_next_frame(NODE, OUTPUT(KOSMYDORE_NEXT_FRAME_OUTPUT), TALLY).id, id);
+}
+
+/* Streams 5 and 6 are received as two-message, 7 as IMD and 8 as plain; 9 is sent. */
+static void what_is_told(void)
+{
+    begin();
+    has(5, two_message_of(KOSMYDORE_RECEIVE));
+    has(6, two_message_of(KOSMYDORE_RECEIVE));
+    has(7, settings_of(KOSMYDORE_RECEIVE, KOSMYDORE_IMD, 2, 3));
+    has(8, settings_of(KOSMYDORE_RECEIVE, KOSMYDORE_PLAIN, 0, 0));
+    has(9, two_message_of(KOSMYDORE_SEND));
+    requested(__LINE__, 9, KOSMYDORE_DONE);
+    gives(__LINE__, 36);
+    gives(__LINE__, 37);
+
+    TOLD(20, 8, NEW);
+    TOLD(20, 8, DUPLICATE);
+    TOLD_NOTHING(20, 7, KOSMYDORE_HEAR_OUTPUT, KOSMYDORE_CLASH);
+    TOLD_NOTHING(20, 8, KOSMYDORE_HEAR_OUTPUT - 1, KOSMYDORE_SHORT_OUTPUT);
+    TOLD(21, 0, CONFIRMED);
+    TOLD(21, 0, CONFIRMED_AGAIN);
+    TOLD(20, 8, DUPLICATE);
+    TOLD_NOTHING(21, 1, KOSMYDORE_HEAR_OUTPUT, KOSMYDORE_UNWANTED_PAYLOAD);
+    TOLD(22, 0, DROPPED);
+    TOLD(22, 0, NOTHING_TO_DROP);
+    TOLD(21, 0, ABORT_PENDING);
+    TOLD(21, 0, ABORT_PENDING);
+    gives(__LINE__, 22);
+    TOLD(24, 8, NEW);
+    TOLD(26, 0, DROPPED);
+    TOLD(28, 8, NEW);
+    TOLD(28, 8, DUPLICATE);
+    TOLD_NOTHING(29, 0, KOSMYDORE_HEAR_OUTPUT, KOSMYDORE_MISFIT);
+    TOLD(35, 8, DELIVERED);
+    TOLD(35, 0, DELIVERED);
+    TOLD_NOTHING(35, 8, KOSMYDORE_HEAR_OUTPUT - 1, KOSMYDORE_SHORT_OUTPUT);
+    TOLD_NOTHING(38, 0, KOSMYDORE_HEAR_OUTPUT, KOSMYDORE_NOT_MINE);
+    TOLD_NOTHING(KOSMYDORE_MAX_BUS_ID + 1, 0, KOSMYDORE_HEAR_OUTPUT, KOSMYDORE_IDENTIFIER_TOO_BIG);
+
+    /* 5 is not confirmed and 7 is due at the fourth tick, 6 at the seventh; the hold of 9 ends at the ninth */
+    TOLD(20, 8, NEW);
+    TOLD(24, 8, NEW);
+    TOLD(25, 0, CONFIRMED);
+    COUNTS(0, 0);
+    COUNTS(0, 0);
+    COUNTS(0, 0);
+    counts(__LINE__, KOSMYDORE_TICK_OUTPUT - 1, KOSMYDORE_SHORT_OUTPUT, 0, 0);
+    COUNTS(1, 1);
+    TOLD(22, 0, NOTHING_TO_DROP);
+    TOLD(21, 0, ABORT_PENDING);
+    COUNTS(0, 0);
+    COUNTS(0, 0);
+    COUNTS(0, 1);
+    COUNTS(0, 0);
+    requested(__LINE__, 9, KOSMYDORE_BUSY);
+    COUNTS(0, 0);
+    requested(__LINE__, 9, KOSMYDORE_DONE);
+}
+
+/* A tick at which every slot is due: so many messages are dropped, and all others delivered. */
+static void all_due(uint32_t dropped)
+{
+    uint32_t stream;
+
+    begin();
+    for (stream = 0; stream < KOSMYDORE_SLOTS; stream++) {
+        has(stream, stream < dropped ? two_message_of(KOSMYDORE_RECEIVE) : settings_of(KOSMYDORE_RECEIVE, KOSMYDORE_IMD, 2, 3));
+        TOLD(4 * stream, 8, NEW);
+    }
+    COUNTS(0, 0);
+    COUNTS(0, 0);
+    COUNTS(0, 0);
+    COUNTS(dropped, KOSMYDORE_SLOTS - dropped);
+    COUNTS(0, 0);
 }
 
 /* kosmydore_count, at every number and at other lengths. */
@@ -470,7 +664,9 @@ static void count(void)
         counted(__LINE__, "count", numbers[i], numbers[i], 0);
     }
     was = lent;
-    SAME(kosmydore_count(TALLY, KOSMYDORE_TALLY_SIZE), false);
+    for (i = KOSMYDORE_NOTHING + 1; i < KOSMYDORE_IDENTIFIER_TOO_BIG; i++)
+        SAME(kosmydore_count(TALLY, (uint32_t)i), false);
+    SAME(kosmydore_count(TALLY, KOSMYDORE_UNWANTED_PAYLOAD + 1), false);
     SAME(kosmydore_count(TALLY, 256), false);
     SAME(kosmydore_count(TALLY, TOP), false);
     SAME(kosmydore_count(lent.counts + EDGE, KOSMYDORE_TALLY_SIZE - 1, 0), false);
@@ -495,6 +691,11 @@ int main(void)
     set_up_numbers();
     dlcs();
     lent_node();
+    what_is_told();
+    all_due(0);
+    all_due(1);
+    all_due(KOSMYDORE_SLOTS - 1);
+    all_due(KOSMYDORE_SLOTS);
     count();
     printf("%d passed, %d failed\n", passed, failed);
     return failed == 0 ? 0 : 1;

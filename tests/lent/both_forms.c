@@ -2,7 +2,8 @@
  *   both_forms CALLS [SEED]
  * After each call the replies, the values and the outputs are equal, the lent bytes are the node by value (as decoded here, by the table of
  * crates/node_bytes/src/layout.rt), the tally has the counts that are kept apart, and no byte beside what was lent is another; after a refusal
- * every byte of the node is as it was. The first difference is printed. Each reply has to occur, of each call that can give it. */
+ * every byte of the node is as it was, and nothing is told. The first difference is printed. Each reply has to occur, of each call that can give it, and
+ * each frame's deed that is told. */
 #include <stdio.h>
 #include <stdlib.h>
 #include <string.h>
@@ -80,13 +81,28 @@ static bool agreed = true;
 enum call { SET_UP, HEAR, TICK, REQUEST, NEXT_FRAME, FRESH, COUNT, CALLS };
 static const char *const names[CALLS] = {"set up", "hear", "tick", "request", "next frame", "fresh", "count"};
 static unsigned long seen[CALLS][KOSMYDORE_TALLY_SIZE];
+/* How often each number was told of a frame. */
+static unsigned long seen_told[KOSMYDORE_TOLD_DELIVERED + 1];
 static enum call call;
 
+/* Where the count of a reply stands, KOSMYDORE_TALLY_SIZE where it has none. */
+static size_t place_of(uint32_t reply)
+{
+    size_t place = 0;
+
+    while (place < KOSMYDORE_TALLY_SIZE && numbers[place] != reply)
+        place++;
+    return place;
+}
+
 /* ---- what must happen, beside the replies ---- */
-enum event { ROLLED_OVER, DELIVERED, ALL_DELIVERED, PLAIN_DELIVERED, TALLY_FULL, TALLY_OTHER, WILD_NODE_DONE, HIGH_DLC, HIGH_SETTING, EVENTS };
+enum event {
+    ROLLED_OVER, DELIVERED, ALL_DELIVERED, DROPPED, MANY_DROPPED, DROPPED_AND_DELIVERED, TALLY_FULL, TALLY_OTHER, WILD_NODE_DONE, HIGH_DLC, HIGH_SETTING, EVENTS
+};
 static const char *const event_names[EVENTS] = {
-    "a tick that rolls the counter over", "a tick that delivers", "a tick that delivers 32 records", "a plain frame delivered", "a count that stays",
-    "a tally of another length", "a call done on wild bytes", "a DLC above 255 refused", "a setting above 65,535 refused",
+    "a tick that rolls the counter over", "a tick that delivers", "a tick that delivers 32 records", "a tick that drops", "a tick that drops several",
+    "a tick that drops and delivers", "a count that stays", "a tally of another length", "a call done on wild bytes", "a DLC above 255 refused",
+    "a setting above 65,535 refused",
 };
 static unsigned long events[EVENTS];
 static bool wild;
@@ -128,22 +144,19 @@ static bool is_node(void)
 /* The reply is counted apart, and the tally has these counts. */
 static bool count_apart(uint32_t reply)
 {
-    bool has = false;
+    size_t place = place_of(reply);
 
     if (tally_length != KOSMYDORE_TALLY_SIZE) {
         events[TALLY_OTHER]++;
         return false;
     }
-    for (size_t i = 0; i < KOSMYDORE_TALLY_SIZE; i++) {
-        if (numbers[i] == reply) {
-            has = true;
-            if (counts[EDGE + i] == UINT32_MAX)
-                events[TALLY_FULL]++;
-            else
-                counts[EDGE + i]++;
-        }
-    }
-    return has;
+    if (place == KOSMYDORE_TALLY_SIZE)
+        return false;
+    if (counts[EDGE + place] == UINT32_MAX)
+        events[TALLY_FULL]++;
+    else
+        counts[EDGE + place]++;
+    return true;
 }
 
 static void same_tally(void)
@@ -178,8 +191,8 @@ static void after(uint32_t reply, uint32_t expected, size_t written)
     size_t at = EDGE + written;
 
     check("the reply", reply == (is_node() ? expected : KOSMYDORE_BAD_LENGTH));
-    if (reply < KOSMYDORE_TALLY_SIZE)
-        seen[call][reply]++;
+    if (place_of(reply) < KOSMYDORE_TALLY_SIZE)
+        seen[call][place_of(reply)]++;
     if (call != FRESH)
         count_apart(reply);
     same_tally();
@@ -223,35 +236,55 @@ static void hear(void)
 {
     struct asked f = any_frame();
     size_t room = any_room(KOSMYDORE_HEAR_OUTPUT);
-    struct kosmydore_delivered a = kosmydore_hear(node, f.number, f.dlc, f.payload, f.length, output_by_value + EDGE, room);
-    struct kosmydore_written w = kosmydore_module_hear(NODE, f.number, f.dlc, f.payload, f.length, output + EDGE, room, TALLY);
+    struct kosmydore_heard a = kosmydore_hear(node, f.number, f.dlc, f.payload, f.length, output_by_value + EDGE, room);
+    struct kosmydore_module_heard w = kosmydore_module_hear(NODE, f.number, f.dlc, f.payload, f.length, output + EDGE, room, TALLY);
 
     if (is_node())
         node = a.node;
     else
-        a.written = 0, memcpy(output_by_value, output_before, sizeof output);
+        a.told = KOSMYDORE_TOLD_NOTHING, a.written = 0, memcpy(output_by_value, output_before, sizeof output);
     check("how much is written", w.written == a.written);
+    check("what the frame did", w.told == a.told);
+    check("whether anything is told", (w.told != KOSMYDORE_TOLD_NOTHING) == (w.reply == KOSMYDORE_DONE));
+    check("what is told of a frame delivered at once", (w.told == KOSMYDORE_TOLD_DELIVERED) == (w.written != 0));
     check("the judgement of the DLC", f.dlc <= KOSMYDORE_MAX_DLC || w.reply != KOSMYDORE_DONE);
-    events[HIGH_DLC] += f.dlc > 255 && w.reply == KOSMYDORE_BAD_FRAME;
-    events[PLAIN_DELIVERED] += w.written != 0;
+    events[HIGH_DLC] += f.dlc > 255 && w.reply == KOSMYDORE_DLC_TOO_BIG;
+    if (w.told <= KOSMYDORE_TOLD_DELIVERED)
+        seen_told[w.told]++;
     after(w.reply, a.reply, w.written);
+}
+
+/* The records that stand one after the other. */
+static uint32_t records_of(const uint8_t *bytes, size_t length)
+{
+    uint32_t records = 0;
+
+    for (size_t at = 0; at < length; at += 2 + (size_t)two_at(bytes + at))
+        records++;
+    return records;
 }
 
 static void tick(void)
 {
     size_t room = any_room(KOSMYDORE_TICK_OUTPUT);
-    struct kosmydore_delivered a = kosmydore_tick(node, output_by_value + EDGE, room);
-    struct kosmydore_written w = kosmydore_module_tick(NODE, output + EDGE, room, TALLY);
+    struct kosmydore_ticked a = kosmydore_tick(node, output_by_value + EDGE, room);
+    struct kosmydore_module_ticked w = kosmydore_module_tick(NODE, output + EDGE, room, TALLY);
 
     if (is_node()) {
         events[ROLLED_OVER] += a.node.counter < node.counter;
         node = a.node;
     } else {
-        a.written = 0, memcpy(output_by_value, output_before, sizeof output);
+        a.dropped = 0, a.delivered = 0, a.written = 0, memcpy(output_by_value, output_before, sizeof output);
     }
     check("how much is written", w.written == a.written);
+    check("how many were dropped", w.dropped == a.dropped);
+    check("how many were delivered", w.delivered == a.delivered && w.delivered == records_of(output + EDGE, w.written));
+    check("what a refusal tells", w.reply == KOSMYDORE_DONE || (w.dropped == 0 && w.delivered == 0));
     events[DELIVERED] += w.written != 0;
-    events[ALL_DELIVERED] += w.written > (KOSMYDORE_SLOTS - 1) * KOSMYDORE_HEAR_OUTPUT;
+    events[ALL_DELIVERED] += w.delivered == KOSMYDORE_SLOTS;
+    events[DROPPED] += w.dropped != 0;
+    events[MANY_DROPPED] += w.dropped > 1;
+    events[DROPPED_AND_DELIVERED] += w.dropped != 0 && w.delivered != 0;
     after(w.reply, a.reply, w.written);
 }
 
@@ -300,7 +333,7 @@ static void count(void)
     check("whether there is a count", has == count_apart(reply));
     same_tally();
     same_lent();
-    seen[call][has ? KOSMYDORE_DONE : KOSMYDORE_NOTHING]++;
+    seen[call][place_of(has ? KOSMYDORE_DONE : KOSMYDORE_NOTHING)]++;
 }
 
 /* ---- where calls begin ---- */
@@ -389,10 +422,12 @@ static void all_occurred(void)
 {
     static const struct {
         enum call call;
-        uint32_t replies[8];
+        uint32_t replies[10];
     } each[] = {
         {SET_UP, {KOSMYDORE_BAD_SETTINGS, KOSMYDORE_TAKEN, KOSMYDORE_TABLE_FULL, KOSMYDORE_BAD_LENGTH}},
-        {HEAR, {KOSMYDORE_SHORT_OUTPUT, KOSMYDORE_BAD_FRAME, KOSMYDORE_NOT_MINE, KOSMYDORE_MISFIT, KOSMYDORE_CLASH, KOSMYDORE_BAD_LENGTH}},
+        {HEAR,
+         {KOSMYDORE_SHORT_OUTPUT, KOSMYDORE_IDENTIFIER_TOO_BIG, KOSMYDORE_DLC_TOO_BIG, KOSMYDORE_PAYLOAD_LENGTH, KOSMYDORE_UNWANTED_PAYLOAD,
+          KOSMYDORE_NOT_MINE, KOSMYDORE_MISFIT, KOSMYDORE_CLASH, KOSMYDORE_BAD_LENGTH}},
         {TICK, {KOSMYDORE_SHORT_OUTPUT, KOSMYDORE_BAD_LENGTH}},
         {REQUEST, {KOSMYDORE_BAD_LENGTH, KOSMYDORE_NOT_SENDER, KOSMYDORE_BUSY}},
         {NEXT_FRAME, {KOSMYDORE_SHORT_OUTPUT, KOSMYDORE_NOTHING, KOSMYDORE_BAD_LENGTH}},
@@ -401,10 +436,12 @@ static void all_occurred(void)
     };
 
     for (size_t i = 0; i < sizeof each / sizeof each[0]; i++) {
-        occurred(names[each[i].call], ": reply", KOSMYDORE_DONE, seen[each[i].call][KOSMYDORE_DONE]);
-        for (size_t k = 0; k < 8 && each[i].replies[k] != KOSMYDORE_DONE; k++)
-            occurred(names[each[i].call], ": reply", each[i].replies[k], seen[each[i].call][each[i].replies[k]]);
+        occurred(names[each[i].call], ": reply", KOSMYDORE_DONE, seen[each[i].call][place_of(KOSMYDORE_DONE)]);
+        for (size_t k = 0; each[i].replies[k] != KOSMYDORE_DONE; k++)
+            occurred(names[each[i].call], ": reply", each[i].replies[k], seen[each[i].call][place_of(each[i].replies[k])]);
     }
+    for (size_t i = 0; i <= KOSMYDORE_TOLD_DELIVERED; i++)
+        occurred(names[HEAR], ": told", (uint32_t)i, seen_told[i]);
     for (size_t i = 0; i < EVENTS; i++)
         occurred(event_names[i], ", event", (uint32_t)i, events[i]);
 }
@@ -415,9 +452,13 @@ static void say_counts(void)
         printf("%s:", names[i]);
         for (size_t k = 0; k < KOSMYDORE_TALLY_SIZE; k++)
             if (seen[i][k] != 0)
-                printf(" %lu of reply %lu;", seen[i][k], (unsigned long)k);
+                printf(" %lu of reply %lu;", seen[i][k], (unsigned long)numbers[k]);
         printf("\n");
     }
+    printf("told of a frame:");
+    for (size_t i = 0; i <= KOSMYDORE_TOLD_DELIVERED; i++)
+        printf(" %lu of %lu;", seen_told[i], (unsigned long)i);
+    printf("\n");
     for (size_t i = 0; i < EVENTS; i++)
         printf("%s: %lu\n", event_names[i], events[i]);
 }

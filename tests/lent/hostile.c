@@ -1,7 +1,8 @@
 /* One call on a node in lent bytes, whatever bytes, a line:
  *   hostile LINES [SEED]
  * The bytes are random, or slots of random parts, or made by calls and then damaged in one byte. A line has the call, the bytes in hex before it, what
- * is asked, the reply, the identifier, how much was written, the output and the bytes after it. second/src/lent_lines.rs reads the lines. */
+ * is asked, the reply, the identifier, how much was written, what the frame did, how many messages the tick dropped and delivered, the output and the bytes
+ * after it. second/src/lent_lines.rs reads the lines. */
 #include <stdio.h>
 #include <stdlib.h>
 #include <string.h>
@@ -44,11 +45,21 @@ static void say_call(const char *name)
     say_bytes(NODE);
 }
 
-static void say_answer(uint32_t reply, uint32_t id, size_t written, size_t room)
+/* What a call answers; a part that it has not is 0. */
+struct answer {
+    uint32_t reply, id;
+    size_t written;
+    uint32_t told, dropped, delivered;
+};
+
+static void say_answer(struct answer answer, size_t room)
 {
-    say_number(reply);
-    say_number(id);
-    say_number(written);
+    say_number(answer.reply);
+    say_number(answer.id);
+    say_number(answer.written);
+    say_number(answer.told);
+    say_number(answer.dropped);
+    say_number(answer.delivered);
     say_bytes(output, room);
     say_bytes(NODE);
     if (said)
@@ -80,13 +91,13 @@ static void set_up(void)
     say_number(s.confirm_delay);
     say_number(s.abort_reach);
     say_number(s.deliver_delay);
-    say_answer(kosmydore_module_set_up(NODE, stream, s, TALLY), 0, 0, 0);
+    say_answer((struct answer){.reply = kosmydore_module_set_up(NODE, stream, s, TALLY)}, 0);
 }
 
 static void hear(void)
 {
     struct asked f = any_frame();
-    struct kosmydore_written w;
+    struct kosmydore_module_heard h;
     size_t room;
 
     say_call("hear");
@@ -94,19 +105,19 @@ static void hear(void)
     say_number(f.dlc);
     say_bytes(f.payload, f.length);
     room = lend_output(KOSMYDORE_HEAR_OUTPUT);
-    w = kosmydore_module_hear(NODE, f.number, f.dlc, f.payload, f.length, output, room, TALLY);
-    say_answer(w.reply, 0, w.written, room);
+    h = kosmydore_module_hear(NODE, f.number, f.dlc, f.payload, f.length, output, room, TALLY);
+    say_answer((struct answer){.reply = h.reply, .written = h.written, .told = h.told}, room);
 }
 
 static void tick(void)
 {
-    struct kosmydore_written w;
+    struct kosmydore_module_ticked t;
     size_t room;
 
     say_call("tick");
     room = lend_output(KOSMYDORE_TICK_OUTPUT);
-    w = kosmydore_module_tick(NODE, output, room, TALLY);
-    say_answer(w.reply, 0, w.written, room);
+    t = kosmydore_module_tick(NODE, output, room, TALLY);
+    say_answer((struct answer){.reply = t.reply, .written = t.written, .dropped = t.dropped, .delivered = t.delivered}, room);
 }
 
 static void request(void)
@@ -116,7 +127,7 @@ static void request(void)
     say_call("request");
     say_number(m.number);
     say_bytes(m.payload, m.length);
-    say_answer(kosmydore_module_request(NODE, m.number, m.payload, m.length, TALLY), 0, 0, 0);
+    say_answer((struct answer){.reply = kosmydore_module_request(NODE, m.number, m.payload, m.length, TALLY)}, 0);
 }
 
 static void next_frame(void)
@@ -127,7 +138,7 @@ static void next_frame(void)
     say_call("next_frame");
     room = lend_output(KOSMYDORE_NEXT_FRAME_OUTPUT);
     g = kosmydore_module_next_frame(NODE, output, room, TALLY);
-    say_answer(g.reply, g.id, g.length, room);
+    say_answer((struct answer){.reply = g.reply, .id = g.id, .written = g.length}, room);
 }
 
 static void any_call(void)

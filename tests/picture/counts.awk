@@ -1,11 +1,13 @@
 # Counts the marks that a picture must have, from a history and the harness's answers alone, pasted line by line with a
-# tab between them. Prints 'KIND COUNT' for each kind of mark, and 'delivers TICK MODULE STREAM:PAYLOAD' for each delivery.
+# tab between them. Prints 'KIND COUNT' for each kind of mark, 'delivers TICK MODULE STREAM:PAYLOAD' for each delivery, and
+# 'drops TICK MODULE NUMBER' for each drop.
 BEGIN {
     FS = "\t"
     now = 0
     kinds = "request_taken request_refused given_data given_confirmation given_abort given_plain nothing sending_full" \
         " sending_short unsent heard_taken heard_other heard_refused missed delivery drop death" \
-        " window all none differs open"
+        " did_new did_duplicate did_confirmed did_confirmed-again did_abort-pending did_dropped did_nothing-to-drop" \
+        " did_delivered window all none differs open"
     split("data confirmation abort plain", code_names, " ")
 }
 {
@@ -33,8 +35,6 @@ ask[1] == "give" {
     if (words == 4) {
         count["given_" code_names[answer[3] % 4 + 1]]++
         owner[answer[2]] = ask[2]
-        ident[answer[2]] = answer[3]
-        carried[answer[2]] = answer[4]
     } else
         count["nothing"]++
 }
@@ -51,25 +51,33 @@ ask[1] == "full" || ask[1] == "short" {
         for (w = 1; w <= heard; w++) {
             parts = split(answer[w], part, ":")
             count[part[2] == 0 ? "heard_taken" : part[2] == 5 ? "heard_other" : "heard_refused"]++
-            if (parts == 4)
-                delivers(now, part[1], part[3], part[4], 0)
-            if (part[2] == 0 && ident[ask[2]] % 4 == 0)
-                for (v = 1; v <= window; v++)
-                    if (stream[v] == (ident[ask[2]] - ident[ask[2]] % 4) / 4 && payload[v] == carried[ask[2]] && now < until[v])
-                        heard_by[v, part[1]] = 1
+            if (part[2] == 0)
+                count["did_" part[3]]++
+            if (part[3] == "delivered")
+                delivers(now, part[1], part[4], part[5], 0)
+            if (part[3] == "dropped")
+                drops(now, part[1], 1)
         }
     }
 }
 ask[1] == "tick" || ask[1] == "ticks" {
     for (w = 2; w <= words; w++) {
         parts = split(answer[w], part, ":")
-        delivers(parts == 4 ? part[1] : answer[1], part[parts - 2], part[parts - 1], part[parts], 1)
+        tick = parts == 4 ? part[1] : answer[1]
+        if (part[parts - 1] == "dropped")
+            drops(tick, part[parts - 2], part[parts])
+        else
+            delivers(tick, part[parts - 2], part[parts - 1], part[parts], 1)
     }
     now = answer[1]
 }
 ask[1] == "death" && !(ask[2] in died) {
     count["death"]++
     died[ask[2]] = now
+}
+function drops(tick, m, number) {
+    count["drop"]++
+    print "drops", tick, m, number
 }
 # A delivery by a tick counts for the windows that are open then.
 function delivers(tick, m, s, bytes, by_tick,   v) {
@@ -94,7 +102,6 @@ END {
             live++
             all += any[v, m] == 1 && right[v, m] == 1
             none += !any[v, m]
-            count["drop"] += heard_by[v, m] && !right[v, m]
         }
         count[none == live ? "none" : all == live ? "all" : "differs"]++
     }

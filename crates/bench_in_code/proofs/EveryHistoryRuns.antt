@@ -11,7 +11,7 @@ use Rattle.wire.specs.declared.ids.Stream.{Stream}
 use Rattle.one_stream.proofs.Truth.{and-l, and-r, is-true}
 use Rattle.bench_in_code.specs.declared.outbox.Frame as kept-frame
 use Rattle.bench_in_code.specs.declared.outbox.Frames.{Frames}
-use Rattle.bench_in_code.specs.declared.Bench as coded
+use Rattle.bench_in_code.specs.Values as coded
 use Rattle.bench.specs.SetUp.{Plan, allEntries, proper, start}
 use Rattle.bench.specs.Bench.{Bench, Frame, Which, isLive, bookOf, frameOf, ownerOf}
 use Rattle.bench.specs.Events.{Event, asks, gives, sends, ticks, dies, To, step, run, isNext}

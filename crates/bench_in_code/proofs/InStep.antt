@@ -28,14 +28,11 @@ use Rattle.node.proofs.next_frame.Cases.{next-facts, next-passes, next-cases}
 use Rattle.node.proofs.kept.EveryCall.{kept-by}
 use Rattle.node.proofs.rollover.SameAnswers.{rolls}
 use Rattle.one_stream.proofs.Truth.{and-l, is-true, so}
-use Rattle.bench_in_code.specs.declared.stations.Station.{Station}
-use Rattle.bench_in_code.specs.declared.stations.Said.{Said}
-use Rattle.bench_in_code.specs.declared.stations.Turn.{Turn}
 use Rattle.bench_in_code.specs.declared.outbox.Frame as kept-frame
 use Rattle.bench_in_code.specs.declared.outbox.Frames.{Frames}
-use Rattle.bench_in_code.specs.declared.Bench as coded
+use Rattle.bench_in_code.specs.Values as coded
 use Rattle.bench_in_code.specs.declared.Giving.the-variants.{Out}
-use Rattle.bench_in_code.specs.declared.Gave.{Gave}
+use Rattle.bench_in_code.specs.Values.{Station, Said, Turn, Gave}
 use Rattle.bench.specs.Lists.{nth, each}
 use Rattle.bench.specs.SetUp.{isDone}
 use Rattle.bench.specs.Bench.{Bench, Module, Frame, Delivery, recordsOf, pendingSince, moduleAt, sameStream, isLive, bookOf, Which, frameOf, ownerOf}
@@ -72,15 +69,14 @@ module _ {m : Module} {x : Station} (a : Mirrors m x) where
       go false = a
 
 -- what a module says are the records of what it logs
-says-records : (o : Outcome) (ds : List Delivery) → o .bytes ≡ recordsOf ds → saying o ≡ says (o .reply) ds
-says-records o ds e = ap (λ (bytes : List ℕ). record { heard = true; reply = o .reply; len = length bytes; bytes = over bytes lent }) e
+says-records : (o : Outcome) (ds : List Delivery) → o .bytes ≡ recordsOf ds → saying o ≡ says o ds
+says-records o ds e =
+    ap (λ (bytes : List ℕ). record { heard = true; reply = o .reply; len = length bytes; bytes = over bytes lent; report = o .report }) e
 
-tick-says : (n : Node) → saying (outcome unbounded (tick lent) n) ≡ says Done (deliveries unbounded n)
-tick-says n =
-    says-records (outcome unbounded (tick lent) n) (deliveries unbounded n) (tick-writes unbounded n)
-    ∙ ap (λ (o : Outcome). says (o .reply) (deliveries unbounded n)) (tick-cases lent unbounded n .accepted-if (record { room = omega arith }))
+tick-says : (n : Node) → saying (outcome unbounded (tick lent) n) ≡ says (outcome unbounded (tick lent) n) (deliveries unbounded n)
+tick-says n = says-records (outcome unbounded (tick lent) n) (deliveries unbounded n) (tick-writes unbounded n)
 
-heard-says : (g : Frame) (m : Module) → saying (heard g m) ≡ says (heard g m .reply) (atOnce g m)
+heard-says : (g : Frame) (m : Module) → saying (heard g m) ≡ says (heard g m) (atOnce g m)
 heard-says g m = says-records (heard g m) (atOnce g m) (heard-writes g m)
 
 -- ── whom a sending is to ──

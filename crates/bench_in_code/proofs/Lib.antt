@@ -1,3 +1,4 @@
+pub mod StationsInBytes
 pub mod LoopsOverStations
 pub mod CallsInCode
 pub mod Unique

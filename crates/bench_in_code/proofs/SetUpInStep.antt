@@ -16,7 +16,7 @@ use Rattle.node.specs.Clock.{unbounded}
 use Rattle.node.specs.Calls.{Call, setUp, outcome, after, afterFrom, Answer, answersFrom}
 use Rattle.node.proofs.kept.EveryCall.{kept-fresh}
 use Rattle.one_stream.proofs.Truth.{and-l, and-r, both}
-use Rattle.bench_in_code.specs.declared.Bench as coded
+use Rattle.bench_in_code.specs.Values as coded
 use Rattle.bench.specs.Lists.{nth, every}
 use Rattle.bench.specs.SetUp.{Entry, Part, Plan, setUps, isDone, accepted, allAgree, allEntries, isSent, proper, moduleFor, start}
 use Rattle.bench.specs.Bench.{Module, noModule, moduleAt, isLive}

@@ -6,25 +6,20 @@ use mathlib.Core.Bool.{Bool, true, false, not, cond, _&&_}
 use mathlib.Core.List.{List, [], _∷_, map}
 use lib.ListN.{length, replicate, take, getD, set}
 use lib.Dec.{eqb, leb, ltb}
+use Rattle.wire.specs.declared.ids.Stream.{Stream}
 use Rattle.wire.specs.declared.reply.Reply.the-variants.{Done}
 use Rattle.wire.specs.Frames.{maxPayload}
 use Rattle.wire.specs.Delivered.{over}
-use Rattle.node.specs.declared.Delivered.{Delivered}
+use Rattle.node.specs.Told.{silent}
 use Rattle.node.specs.Nodes.{Outcome, fresh, noId}
 use Rattle.node.specs.Clock.{rolled}
-use Rattle.node.specs.Calls.{Call, tick, nextFrame}
-use Rattle.bench_in_code.specs.declared.stations.Station.{Station}
-use Rattle.bench_in_code.specs.declared.stations.Said.{Said}
-use Rattle.bench_in_code.specs.declared.stations.Turn.{Turn}
+use Rattle.node.specs.Calls.{Call, request, tick, nextFrame}
 use Rattle.bench_in_code.specs.declared.outbox.Frame as kept-frame
 use Rattle.bench_in_code.specs.declared.outbox.Frames.{Frames}
-use Rattle.bench_in_code.specs.declared.Bench as coded
-use Rattle.bench_in_code.specs.declared.Asked.{Asked}
-use Rattle.bench_in_code.specs.declared.Told.{Told}
-use Rattle.bench_in_code.specs.declared.Sent.{Sent}
+use Rattle.bench_in_code.specs.Values as coded
+use Rattle.bench_in_code.specs.Values.{Station, Said, Turn, Asked, Told, Sent, Gave}
 use Rattle.bench_in_code.specs.declared.Giving.{Giving}
 use Rattle.bench_in_code.specs.declared.Giving.the-variants.{Dead, Nothing, Full, Out}
-use Rattle.bench_in_code.specs.declared.Gave.{Gave}
 use Rattle.bench.specs.Lists.{nth, at, each}
 use Rattle.bench.specs.SetUp.{isDone}
 use Rattle.bench.specs.Bench.{Frame, never, Module}
@@ -46,18 +41,10 @@ kept m = record { node = m .node; live = m .live }
 
 -- what a module says: an outcome, with what was written in an output of zeros; nothing, where an event did not reach it
 abbrev pub saying : Outcome → Said
-saying o = record { heard = true; reply = o .reply; len = length (o .bytes); bytes = over (o .bytes) lent }
+saying o = record { heard = true; reply = o .reply; len = length (o .bytes); bytes = over (o .bytes) lent; report = o .report }
 
 abbrev pub silence : Said
-silence = record { heard = false; reply = Done; len = 0; bytes = lent }
-
--- a module whose node answered, with the output that it wrote into
-abbrev pub answeredTurn : Delivered → (output : List ℕ) → Station → Turn
-answeredTurn a output m =
-    record {
-      after = kept (withNode (a .node) (shown m));
-      said = record { heard = true; reply = a .reply; len = a .written; bytes = output };
-    }
+silence = record { heard = false; reply = Done; len = 0; bytes = lent; report = silent }
 
 abbrev pub tickTurn : Station → Turn
 tickTurn m =
@@ -131,6 +118,10 @@ notAsked b = record { bench = b; there = false; reply = Done }
 -- what a module answers that is there
 unfoldable pub asked : (there : Bool) → Call → ℕ → coded.Bench → Asked
 asked there c i b = cond there (record { bench = afterCall c i b; there = true; reply = callIn c i b .reply }) (notAsked b)
+
+-- a request, of a module that is live
+abbrev pub requestedIn : ℕ → Stream → List ℕ → coded.Bench → Asked
+requestedIn i s p b = asked (isLiveIn i b) (request s p) i b
 
 -- an event that may reach every module
 abbrev pub turnsOf : (ℕ → Station → Turn) → coded.Bench → List Turn

@@ -6,10 +6,10 @@ use mathlib.Core.List.{List, map}
 use lib.ListN.{length, getD}
 use Rattle.node.specs.Calls.{roll}
 use Rattle.node.specs.Reachable.{Kept}
-use Rattle.bench_in_code.specs.declared.stations.Station.{Station}
+use Rattle.bench_in_code.specs.Values.{Station}
 use Rattle.bench_in_code.specs.declared.outbox.Frame as kept-frame
 use Rattle.bench_in_code.specs.declared.outbox.Frames.{Frames}
-use Rattle.bench_in_code.specs.declared.Bench as coded
+use Rattle.bench_in_code.specs.Values as coded
 use Rattle.bench.specs.Bench.{Bench, Module, Frame, moduleAt}
 use Rattle.bench.specs.Events.{To, named}
 use Rattle.bench_in_code.specs.InCode.{payloadOf, frameIn, placeCount, places, moduleIn}

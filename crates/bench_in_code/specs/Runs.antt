@@ -11,24 +11,22 @@ use Rattle.wire.specs.declared.ids.BusId.{BusId}
 use Rattle.wire.specs.declared.reply.Reply.{Reply}
 use Rattle.wire.specs.declared.reply.Reply.the-variants.{Done}
 use Rattle.wire.specs.Delivered.{over}
+use Rattle.node.specs.Nodes.{Outcome}
 use Rattle.node.specs.Clock.{unbounded}
 use Rattle.node.specs.Calls as calls
-use Rattle.bench_in_code.specs.declared.stations.Said.{Said}
 use Rattle.bench_in_code.specs.declared.outbox.Frame as kept-frame
 use Rattle.bench_in_code.specs.declared.outbox.Frames.{Frames}
-use Rattle.bench_in_code.specs.declared.Bench as coded
-use Rattle.bench_in_code.specs.declared.Asked.{Asked}
+use Rattle.bench_in_code.specs.Values as coded
+use Rattle.bench_in_code.specs.Values.{Said, Asked, Sent, Gave}
 use Rattle.bench_in_code.specs.declared.Giving.{Giving}
 use Rattle.bench_in_code.specs.declared.Giving.the-variants.{Dead, Nothing, Full, Out}
-use Rattle.bench_in_code.specs.declared.Gave.{Gave}
-use Rattle.bench_in_code.specs.declared.Sent.{Sent}
 use Rattle.bench.specs.Lists.{at, every}
 use Rattle.bench.specs.Bench.{Bench, Delivery, recordsOf, Which, moduleAt, isLive, bookOf, frameOf, ownerOf}
 use Rattle.bench.specs.SetUp.{Entry, Part, Plan, isDone, proper, start}
 use Rattle.bench.specs.Events as rules
-use Rattle.bench.specs.Events.{To, named, Event, asks, gives, sends, ticks, dies, step, run, lent, dead, heard, atOnce, deliveries, next}
+use Rattle.bench.specs.Events.{To, named, Event, asks, gives, sends, ticks, dies, step, run, lent, call, dead, heard, atOnce, deliveries, next}
 use Rattle.bench.specs.Rules.{one, keepsSoFar}
-use Rattle.bench_in_code.specs.InCode.{silence, payloadOf, capacity, noFrames, frameIn, placeCount, places, benchOf, isLiveIn, onModule, asked}
+use Rattle.bench_in_code.specs.InCode.{silence, payloadOf, capacity, noFrames, frameIn, placeCount, places, benchOf, onModule, asked, requestedIn}
 use Rattle.bench_in_code.specs.InCode.{tickOf, sendingOf, givingOf}
 use Rattle.bench_in_code.specs.InStep.{InStep, KeptAs, Names}
 
@@ -48,7 +46,7 @@ pub data Command : Type 0 where
 
 -- ── what its functions answer to that, and leave ──
 abbrev pub requestOf : ℕ → Stream → List ℕ → Coded → Asked
-requestOf i z p x = asked (isLiveIn i (x .bench)) (calls.request z p) i (x .bench)
+requestOf i z p x = requestedIn i z p (x .bench)
 
 abbrev pub giveOf : ℕ → Coded → Gave
 giveOf i x = givingOf i (x .outbox) (x .bench)
@@ -88,9 +86,9 @@ answer tick x = said (tickOf (x .bench) .said)
 answer (death i) x = nothing
 
 -- ── what the rules answer ──
--- a module replies, and writes the records of these deliveries, one after the other
-abbrev pub says : Reply → List Delivery → Said
-says reply ds = record { heard = true; reply = reply; len = length (recordsOf ds); bytes = over (recordsOf ds) lent }
+-- a module replies and tells what the call's outcome says, and writes the records of these deliveries, one after the other
+abbrev pub says : Outcome → List Delivery → Said
+says o ds = record { heard = true; reply = o .reply; len = length (recordsOf ds); bytes = over (recordsOf ds) lent; report = o .report }
 
 -- a live module that is named and does not own the frame says what it logs at once; a live module, what its tick logs
 abbrev pub ruled : Bench → Event → Answer
@@ -99,8 +97,10 @@ ruled b (gives i z c) = gave (next i b .id) (next i b .bytes)
 ruled b (sends z message w to) =
     let f = frameOf w (bookOf z message b) in
     said (map (λ i. cond (isLive i b && named to i && not (eqb i (ownerOf w (bookOf z message b))))
-    (says (heard f (moduleAt i b) .reply) (atOnce f (moduleAt i b))) silence) places)
-ruled b ticks = said (map (λ i. cond (isLive i b) (says Done (deliveries unbounded (moduleAt i b .node))) silence) places)
+    (says (heard f (moduleAt i b)) (atOnce f (moduleAt i b))) silence) places)
+ruled b ticks =
+    said (map (λ i. cond (isLive i b)
+    (says (call unbounded (calls.tick lent) (moduleAt i b)) (deliveries unbounded (moduleAt i b .node))) silence) places)
 ruled b (dies i) = nothing
 
 -- ── runs ──

@@ -1,123 +1,145 @@
-// A module: its node, and whether it is live. What a module said at an event that reached it.
+// A module: its node, in lent bytes, and whether it is live. What it answers to an event.
 use crate::outbox::Frame;
-use node::Delivered;
 use node::Node;
+use node::told::Told;
+use node_bytes::hear::LentHeard;
+use node_bytes::layout::NODE_SIZE;
+use node_bytes::next_frame::next_frame;
+use node_bytes::tick::LentTicked;
+use wire::ids::BusId;
 use wire::reply::Reply;
 ghost use mathlib.Core.Path.{_≡_};
-ghost use Rattle.bench.specs.Events.{withNode, dead};
-ghost use Rattle.bench_in_code.specs.InCode.{atStart, shown, kept, answeredTurn, tickTurn, hearTurn};
+ghost use mathlib.Core.Bool.{true};
+ghost use lib.ListN.{replicate};
+ghost use Rattle.wire.specs.Frames.{maxPayload};
+ghost use Rattle.wire.specs.Delivered.{over};
+ghost use Rattle.node.specs.Nodes.{asGiven};
+ghost use Rattle.node.specs.Clock.{rolled};
+ghost use Rattle.node.specs.Calls.{outcome};
+ghost use Rattle.node_bytes.specs.Decoding.{decode};
+ghost use Rattle.bench_in_code.specs.InCode.{tickTurn, hearTurn, next as nextCall};
+ghost use Rattle.bench_in_code.specs.InBytes.{stationIn, spokenOf, spokenOfFrame, spokenOfTick};
 
-pub struct Station {
-    pub node: Node,
-    pub live: bool,
-}
+pub type NodeBytes = [u8; NODE_SIZE];
 
-// What a module said: its reply, and what it wrote into an output of zeros. Where `heard` is false, the event did not reach it.
-pub struct Said {
+// A node before any call.
+pub const FRESH: NodeBytes = [0; NODE_SIZE];
+
+// What a module writes, behind it zeros.
+pub type Output = [u8; Spoken::ROOM];
+
+pub const CLEAR: Output = [0; Spoken::ROOM];
+
+// What a module answered to an event: its reply, how many bytes of its output it wrote, what a frame did, and how many messages a tick
+// dropped and delivered. Where `heard` is false, the event did not reach it.
+pub struct Spoken {
     pub heard: bool,
     pub reply: Reply,
     pub len: usize,
-    pub bytes: [u8; Said::ROOM],
+    pub told: Told,
+    pub dropped: u32,
+    pub delivered: u32,
 }
 
-impl Said {
+impl Spoken {
     // Room for what any call writes.
     pub const ROOM: usize = Node::TICK_ROOM;
 
-    pub const NOTHING: Said = Said {
+    pub const NOTHING: Spoken = Spoken {
         heard: false,
         reply: Reply::Done,
         len: 0,
-        bytes: [0; Said::ROOM],
+        told: Told::Nothing,
+        dropped: 0,
+        delivered: 0,
     };
-}
 
-// The module after an event, and what it said.
-pub struct Turn {
-    pub after: Station,
-    pub said: Said,
-}
-
-impl Station {
-    // A fresh node, in a module that is live or is not there.
-    pub fn at_start(live: bool) -> Station
-        ensures { λ r. ⌜ r ≡ atStart live ⌝ }
+    fn of_frame(answer: LentHeard) -> Spoken
+        ensures { λ r. ⌜ r ≡ spokenOfFrame answer ⌝ }
     {
-        Station {
-            node: Node::FRESH,
-            live: live,
-        }
-    }
-
-    pub fn with_node(self, node: Node) -> Station
-        ensures { λ r. ⌜ r ≡ kept (withNode node (shown self)) ⌝ }
-    {
-        Station {
-            node: node,
-            live: self.live,
-        }
-    }
-
-    pub fn dead(self) -> Station
-        ensures { λ r. ⌜ r ≡ kept (dead (shown self)) ⌝ }
-    {
-        let node = self.node;
-        Station {
-            node: node,
-            live: false,
-        }
-    }
-
-    // Its node answered, and wrote into the output.
-    fn answered(self, answer: Delivered, out: [u8; Said::ROOM]) -> Turn
-        ensures { λ r. ⌜ r ≡ answeredTurn answer out self ⌝ }
-    {
-        let node = answer.node;
         let reply = answer.reply;
-        Turn {
-            after: Station {
-                node: node,
-                live: self.live,
-            },
-            said: Said {
-                heard: true,
-                reply: reply,
-                len: answer.written,
-                bytes: out,
-            },
+        let told = answer.told;
+        Spoken {
+            heard: true,
+            reply: reply,
+            len: answer.written,
+            told: told,
+            dropped: 0,
+            delivered: 0,
         }
     }
 
-    // A sending of the frame reaches the module if it is named and does not own the frame.
-    pub fn hear(self, frame: Frame, named: bool, own: bool) -> Turn
-        ensures { λ r. ⌜ r ≡ hearTurn named own frame self ⌝ }
+    fn of_tick(answer: LentTicked) -> Spoken
+        ensures { λ r. ⌜ r ≡ spokenOfTick answer ⌝ }
     {
-        if !(self.live & named & !own) {
-            return Turn {
-                after: self,
-                said: Said::NOTHING,
-            };
+        let reply = answer.reply;
+        Spoken {
+            heard: true,
+            reply: reply,
+            len: answer.written,
+            told: Told::Nothing,
+            dropped: answer.dropped,
+            delivered: answer.delivered,
         }
-        let mut out = [0u8; Said::ROOM];
-        let bytes = frame.all_bytes();
-        let n = frame.payload_length();
-        let node = self.node;
-        let answer = node.hear(frame.id, n as u8, &bytes[0..n], &mut out);
-        self.answered(answer, out)
     }
+}
 
-    pub fn tick(self) -> Turn
-        ensures { λ r. ⌜ r ≡ tickTurn self ⌝ }
-    {
-        if !self.live {
-            return Turn {
-                after: self,
-                said: Said::NOTHING,
-            };
-        }
-        let mut out = [0u8; Said::ROOM];
-        let node = self.node;
-        let answer = node.tick(&mut out);
-        self.answered(answer, out)
+// A sending of the frame reaches the module if it is live and named and does not own the frame.
+pub(crate) fn hear(
+    live: bool,
+    named: bool,
+    own: bool,
+    node: &mut NodeBytes,
+    frame: Frame,
+    out: &mut Output,
+) -> Spoken
+    ensures answer { λ r. ⌜ r ≡ spokenOf (hearTurn named own frame (stationIn live (now (node .entry))) .said) ⌝ }
+    ensures output { λ _. ⌜ now (out .exit) ≡ hearTurn named own frame (stationIn live (now (node .entry))) .said .bytes ⌝ }
+    ensures leaves { λ _. ⌜ stationIn live (now (node .exit)) ≡ hearTurn named own frame (stationIn live (now (node .entry))) .after ⌝ }
+{
+    *out = CLEAR;
+    if !(live & named & !own) {
+        return Spoken::NOTHING;
+    }
+    let bytes = frame.all_bytes();
+    let n = frame.payload_length();
+    Spoken::of_frame(node_bytes::hear::hear(node, frame.id, n as u8, &bytes[0..n], out))
+}
+
+pub(crate) fn tick(live: bool, node: &mut NodeBytes, out: &mut Output) -> Spoken
+    ensures answer { λ r. ⌜ r ≡ spokenOf (tickTurn (stationIn live (now (node .entry))) .said) ⌝ }
+    ensures output { λ _. ⌜ now (out .exit) ≡ tickTurn (stationIn live (now (node .entry))) .said .bytes ⌝ }
+    ensures leaves { λ _. ⌜ stationIn live (now (node .exit)) ≡ tickTurn (stationIn live (now (node .entry))) .after ⌝ }
+{
+    *out = CLEAR;
+    if !live {
+        return Spoken::NOTHING;
+    }
+    Spoken::of_tick(node_bytes::tick::tick(node, out))
+}
+
+// A node after its next frame was given out, and that frame.
+pub(crate) struct Next {
+    pub node: NodeBytes,
+    pub reply: Reply,
+    pub id: BusId,
+    pub len: usize,
+    pub bytes: [u8; Frame::ROOM],
+}
+
+pub(crate) fn give(mut node: NodeBytes) -> Next
+    ensures answer { λ r. ⌜ record { node = decode (r .node); reply = r .reply; id = r .id; len = r .len } ≡ asGiven (outcome rolled nextCall (decode node)) ⌝ }
+    ensures output { λ r. ⌜ r .bytes ≡ over (outcome rolled nextCall (decode node) .bytes) (replicate maxPayload 0) ⌝ }
+{
+    let mut bytes = [0u8; Frame::ROOM];
+    let answer = next_frame(&mut node, &mut bytes);
+    let reply = answer.reply;
+    let id = answer.id;
+    Next {
+        node: node,
+        reply: reply,
+        id: id,
+        len: answer.len,
+        bytes: bytes,
     }
 }

@@ -9,6 +9,7 @@ use text::output;
 use text::part;
 use text::payloads;
 use text::settings::settings_at;
+use text::told::put_told;
 use text::words;
 use wire::ids::BusId;
 use wire::ids::Stream;
@@ -67,10 +68,13 @@ pub(crate) fn hear(state: State, line: &[u8], at: usize, out: &mut Buffer, to: u
             size.value,
         );
         let reply = answer.reply;
+        let told = answer.told;
         let past = put_written(out, to, reply, answer.written);
+        let end = output::put_hex(out, past, part(&output, 0, size.value));
+        let parted = output::put_byte(out, end, b' ');
         return Answer {
             state: answers::after(answer.node, state.tally, reply),
-            to: output::put_hex(out, past, part(&output, 0, size.value)),
+            to: put_told(out, parted, told.number()),
         };
     }
     answers::unread(state, out, to)
@@ -85,9 +89,10 @@ pub(crate) fn tick(state: State, line: &[u8], at: usize, out: &mut Buffer, to: u
         let reply = answer.reply;
         let past = put_written(out, to, reply, answer.written);
         let end = output::put_hex(out, past, part(&output, 0, answer.written));
+        let clean = put_clean(out, end, lent::is_clean(&output, answer.written));
         return Answer {
             state: answers::after(answer.node, state.tally, reply),
-            to: put_clean(out, end, lent::is_clean(&output, answer.written)),
+            to: put_lapses(out, clean, answer.dropped, answer.delivered),
         };
     }
     answers::unread(state, out, to)
@@ -124,8 +129,14 @@ fn put_frame(out: &mut Buffer, to: usize, reply: Reply, id: BusId, len: usize) -
 
 fn put_clean(out: &mut Buffer, to: usize, clean: bool) -> usize {
     if clean {
-        output::put(out, to, b" clean")
+        output::put(out, to, b" clean ")
     } else {
-        output::put(out, to, b" dirty")
+        output::put(out, to, b" dirty ")
     }
+}
+
+// `DROPPED DELIVERED`.
+fn put_lapses(out: &mut Buffer, to: usize, dropped: u32, delivered: u32) -> usize {
+    let past = output::put_parted(out, to, dropped as u64, b' ');
+    output::put_decimal(out, past, delivered as u64)
 }

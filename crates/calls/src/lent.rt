@@ -1,7 +1,8 @@
 // The outputs that are lent to the calls. Each has its first bytes lent, and is filled with `ee` before.
-use node::Delivered;
 use node::Given;
+use node::Heard;
 use node::Node;
+use node::Ticked;
 use text::least;
 use wire::ids::BusId;
 
@@ -19,12 +20,12 @@ pub(crate) fn hear(
     payload: &[u8],
     lent: &mut [u8],
     size: usize,
-) -> Delivered {
+) -> Heard {
     let n = least(size, lent.len());
     node.hear(id, dlc, payload, &mut lent[0..n])
 }
 
-pub(crate) fn tick(node: Node, lent: &mut [u8], size: usize) -> Delivered {
+pub(crate) fn tick(node: Node, lent: &mut [u8], size: usize) -> Ticked {
     let n = least(size, lent.len());
     node.tick(&mut lent[0..n])
 }

@@ -18,6 +18,20 @@ pub(crate) fn mixed(sum: u32, x: u32) -> u32 {
     ((wide(sum) * 31 + wide(x)) % 4294967296) as u32
 }
 
+// The checksum with a reply, an identifier and a count of bytes.
+pub(crate) fn mixed_answer(sum: u32, reply: u32, id: u32, count: u32) -> u32 {
+    let with_reply = mixed(sum, reply);
+    let with_id = mixed(with_reply, id);
+    mixed(with_id, count)
+}
+
+// The checksum with what a frame did, and what a tick dropped and delivered.
+pub(crate) fn mixed_told(sum: u32, told: u32, dropped: u32, delivered: u32) -> u32 {
+    let with_frame = mixed(sum, told);
+    let with_dropped = mixed(with_frame, dropped);
+    mixed(with_dropped, delivered)
+}
+
 // The checksum with all the bytes.
 pub(crate) fn mixed_bytes(sum: u32, bytes: &[u8; Node::TICK_ROOM]) -> u32 {
     let mut all = sum;

@@ -1,5 +1,5 @@
 // The workloads. A round takes the generator's next number, makes of it what is asked, and asks it of the
-// node; the checksum takes in the reply, the values and two bytes of the output. Only the first `calls` of
+// node; the checksum takes in the reply, the values, what is told and two bytes of the output. Only the first `calls` of
 // the rounds call the node, so that the cost of the rounds without their calls can be told.
 use crate::asking;
 use crate::asking::Asked;
@@ -234,6 +234,9 @@ pub(crate) fn run(work: Work, rounds: u64, calls: u64) -> u32 {
         let mut reply: u32 = 0;
         let mut id: u32 = 0;
         let mut count: usize = 0;
+        let mut told: u32 = 0;
+        let mut dropped: u32 = 0;
+        let mut delivered: u32 = 0;
         if i < calls {
             match call {
                 Call::Hear => {
@@ -244,42 +247,45 @@ pub(crate) fn run(work: Work, rounds: u64, calls: u64) -> u32 {
                         &mut out[0..room],
                     );
                     node = answer.node;
-                    let told = answer.reply;
-                    reply = told.number();
+                    let got = answer.reply;
+                    reply = got.number();
                     count = answer.written;
+                    let did = answer.told;
+                    told = did.number();
                 }
                 Call::Tick => {
                     let answer = node.tick(&mut out[0..room]);
                     node = answer.node;
-                    let told = answer.reply;
-                    reply = told.number();
+                    let got = answer.reply;
+                    reply = got.number();
                     count = answer.written;
+                    dropped = answer.dropped;
+                    delivered = answer.delivered;
                 }
                 Call::Request => {
                     let answer = node.request(Stream(asked.number), &payload[0..len]);
                     node = answer.node;
-                    let told = answer.reply;
-                    reply = told.number();
+                    let got = answer.reply;
+                    reply = got.number();
                 }
                 Call::NextFrame => {
                     let answer = node.next_frame(&mut out[0..room]);
                     node = answer.node;
-                    let told = answer.reply;
-                    reply = told.number();
+                    let got = answer.reply;
+                    reply = got.number();
                     id = answer.id.0;
                     count = answer.len;
                 }
                 Call::SetUp => {
                     let answer = node.set_up(Stream(asked.number), asked.settings);
                     node = answer.node;
-                    let told = answer.reply;
-                    reply = told.number();
+                    let got = answer.reply;
+                    reply = got.number();
                 }
             }
         }
-        sum = checksum::mixed(sum, reply);
-        sum = checksum::mixed(sum, id);
-        sum = checksum::mixed(sum, checksum::small(count));
+        sum = checksum::mixed_answer(sum, reply, id, checksum::small(count));
+        sum = checksum::mixed_told(sum, told, dropped, delivered);
         sum = checksum::mixed_some(sum, &out, random);
         i += 1;
     }

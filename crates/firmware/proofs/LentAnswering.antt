@@ -1,6 +1,6 @@
 -- A call on a lent node, with the number of its reply counted: its answer as C gets it, what it leaves in the tally, and that of judged numbers all
 -- of it is the same as of the numbers themselves.
-use mathlib.Core.Path.{_≡_, sym, ap, _∙_}
+use mathlib.Core.Path.{_≡_, sym, ap, ap₂, _∙_}
 use mathlib.Core.Bool.{cond}
 use mathlib.Core.List.{List}
 use Prim.Native.Nat.{ℕ}
@@ -9,25 +9,34 @@ use Rattle.wire.specs.declared.reply.Reply.the-variants.{BadLength}
 use Rattle.wire.specs.declared.ids.BusId.{BusId}
 use Rattle.wire.specs.declared.ids.Stream.{Stream}
 use Rattle.wire.specs.Replies.{numberOf}
+use Rattle.node.specs.Told.{toldNumber}
 use Rattle.node.specs.Nodes.{Outcome, refused}
 use Rattle.node.specs.Clock.{rolled}
 use Rattle.node.specs.Calls.{Call, outcome}
-use Rattle.node_bytes.specs.declared.Written.{Written}
+use Rattle.node_bytes.specs.declared.hear.LentHeard.{LentHeard}
+use Rattle.node_bytes.specs.declared.tick.LentTicked.{LentTicked}
 use Rattle.node_bytes.specs.declared.next_frame.GivenOut.{GivenOut}
 use Rattle.node_bytes.specs.Decoding.{decode}
 use Rattle.node_bytes.specs.Lent.{isNode}
-use Rattle.node_bytes.specs.LentCalls.{lentOutcome, asWritten, asGivenOut, Leaves}
+use Rattle.node_bytes.specs.LentCalls.{lentOutcome, asLentHeard, asLentTicked, asGivenOut, Leaves}
 use Rattle.module.specs.Tallies.{countedIn}
 use Rattle.firmware.specs.declared.judged.SettingsC.{SettingsC}
 use Rattle.firmware.specs.Judged.{dlcOf, inNumbers, settingsOf}
-use Rattle.firmware.specs.Lent.{writtenC, givenOutC, Counts}
+use Rattle.firmware.specs.Lent.{lentHeardC, lentTickedC, givenOutC, Counts}
 use Rattle.firmware.proofs.Judging.{heard-so, set-up-so}
 
 -- ── the answers ──
-pub asWrittenC : (a : Written) (o : Outcome) (n : ℕ) → n ≡ numberOf (a .reply) → a ≡ asWritten o → record { reply = n; written = a .written } ≡ writtenC o
-asWrittenC a o n p q =
-    ap (λ (k : ℕ). record { reply = k; written = a .written }) p
-    ∙ ap (λ (w : Written). record { reply = numberOf (w .reply); written = w .written }) q
+pub asLentHeardC : (a : LentHeard) (o : Outcome) (n t : ℕ) → n ≡ numberOf (a .reply) → t ≡ toldNumber (a .told) → a ≡ asLentHeard o
+    → record { reply = n; told = t; written = a .written } ≡ lentHeardC o
+asLentHeardC a o n t p s q =
+    ap₂ (λ (k l : ℕ). record { reply = k; told = l; written = a .written }) p s
+    ∙ ap (λ (w : LentHeard). record { reply = numberOf (w .reply); told = toldNumber (w .told); written = w .written }) q
+
+pub asLentTickedC : (a : LentTicked) (o : Outcome) (n : ℕ) → n ≡ numberOf (a .reply) → a ≡ asLentTicked o
+    → record { reply = n; dropped = a .dropped; delivered = a .delivered; written = a .written } ≡ lentTickedC o
+asLentTickedC a o n p q =
+    ap (λ (k : ℕ). record { reply = k; dropped = a .dropped; delivered = a .delivered; written = a .written }) p
+    ∙ ap (λ (w : LentTicked). record { reply = numberOf (w .reply); dropped = w .dropped; delivered = w .delivered; written = w .written }) q
 
 pub asGivenOutC : (a : GivenOut) (o : Outcome) (n : ℕ) → n ≡ numberOf (a .reply) → a ≡ asGivenOut o
     → record { reply = n; id = a .id .0; len = a .len } ≡ givenOutC o
@@ -52,7 +61,7 @@ pub lent-heard-so : (id : BusId) (dlc : ℕ) (payload output bytes : List ℕ)
 lent-heard-so id dlc payload output bytes = ap (lentAs bytes) (heard-so id dlc payload output (decode bytes))
 
 pub lent-set-up-so : (x : Stream) (s : SettingsC) (bytes : List ℕ)
-    → lentOutcome (Call.setUp x (settingsOf x s)) bytes ≡ lentOutcome (Call.setUp x (inNumbers s)) bytes
+    → lentOutcome (Call.setUp x (settingsOf s)) bytes ≡ lentOutcome (Call.setUp x (inNumbers s)) bytes
 lent-set-up-so x s bytes = ap (lentAs bytes) (set-up-so x s (decode bytes))
 
 -- what a call leaves goes by its outcome alone

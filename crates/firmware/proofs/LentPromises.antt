@@ -12,7 +12,7 @@ use Rattle.node_bytes.specs.LentHistories as in-bytes
 use Rattle.node_bytes.proofs.LentHistories.{some-run}
 use Rattle.module.specs.Tallies.{zeroTally, countedIn}
 use Rattle.firmware.specs.Judged.{inNumbers}
-use Rattle.firmware.specs.Lent.{writtenC, givenOutC}
+use Rattle.firmware.specs.Lent.{lentHeardC, lentTickedC, givenOutC}
 use Rattle.firmware.specs.Histories.{Seen}
 use Rattle.firmware.specs.LentHistories.{Lent, Returned, Answers, Promised, seen, Run, start, next, SomeLentRun}
 use Rattle.firmware.proofs.lent.kosmydore_module_fresh.Reads as fresh-source
@@ -69,8 +69,8 @@ next-frame-tells l i a e (answer, (output, (bytes, tally))) = record { answers =
 -- ── there are such runs: those on the bytes, with what C gets of each answer, and the counts beside them ──
 abbrev inC : (c : Call) → Outcome → Returned c
 inC (setUp s settings) o = numberOf (o .reply)
-inC (hear id dlc payload output) o = writtenC o
-inC (tick output) o = writtenC o
+inC (hear id dlc payload output) o = lentHeardC o
+inC (tick output) o = lentTickedC o
 inC (request s payload) o = numberOf (o .reply)
 inC (nextFrame output) o = givenOutC o
 

@@ -14,10 +14,11 @@ use Rattle.node_bytes.specs.Lent.{isNode, freshIn}
 use Rattle.node_bytes.specs.LentCalls.{lentOutcome, Leaves}
 use Rattle.module.specs.Tallies.{zeroTally, tallyOf}
 use Rattle.module.specs.Histories.{repliesIn}
-use Rattle.firmware.specs.declared.lent.WrittenC.{WrittenC}
+use Rattle.firmware.specs.declared.lent.LentHeardC.{LentHeardC}
+use Rattle.firmware.specs.declared.lent.LentTickedC.{LentTickedC}
 use Rattle.firmware.specs.declared.lent.GivenOutC.{GivenOutC}
-use Rattle.firmware.specs.Lent.{writtenC, givenOutC, Counts}
-use Rattle.firmware.specs.Histories.{Seen, replied, wrote, gave, seenFrom}
+use Rattle.firmware.specs.Lent.{lentHeardC, lentTickedC, givenOutC, Counts}
+use Rattle.firmware.specs.Histories.{Seen, replied, heard, ticked, gave, seenFrom}
 
 -- what the firmware owns and lends: the bytes of the node, and the counts of the tally
 pub record Lent : Type 0 where
@@ -27,8 +28,8 @@ pub record Lent : Type 0 where
 -- what the C function of a call returns
 abbrev pub Returned : Call → Type 0
 Returned (setUp s settings) = ℕ
-Returned (hear id dlc payload output) = WrittenC
-Returned (tick output) = WrittenC
+Returned (hear id dlc payload output) = LentHeardC
+Returned (tick output) = LentTickedC
 Returned (request s payload) = ℕ
 Returned (nextFrame output) = GivenOutC
 
@@ -36,10 +37,10 @@ Returned (nextFrame output) = GivenOutC
 abbrev pub Answers : (c : Call) → (bytes : List ℕ) → Returned c → (left : List ℕ) → Type 0
 Answers (setUp s settings) bytes r left = r ≡ numberOf (lentOutcome (setUp s settings) bytes .reply)
 Answers (hear id dlc payload output) bytes r left =
-    (r ≡ writtenC (lentOutcome (hear id dlc payload output) bytes))
+    (r ≡ lentHeardC (lentOutcome (hear id dlc payload output) bytes))
     × (left ≡ over (lentOutcome (hear id dlc payload output) bytes .bytes) output)
 Answers (tick output) bytes r left =
-    (r ≡ writtenC (lentOutcome (tick output) bytes)) × (left ≡ over (lentOutcome (tick output) bytes .bytes) output)
+    (r ≡ lentTickedC (lentOutcome (tick output) bytes)) × (left ≡ over (lentOutcome (tick output) bytes .bytes) output)
 Answers (request s payload) bytes r left = r ≡ numberOf (lentOutcome (request s payload) bytes .reply)
 Answers (nextFrame output) bytes r left =
     (r ≡ givenOutC (lentOutcome (nextFrame output) bytes)) × (left ≡ over (lentOutcome (nextFrame output) bytes .bytes) output)
@@ -51,8 +52,8 @@ pub record Promised (c : Call) (m : Lent) (r : Returned c) (left : List ℕ) (th
 
 abbrev pub seen : (c : Call) → Returned c → (left : List ℕ) → Seen
 seen (setUp s settings) r left = replied r
-seen (hear id dlc payload output) r left = wrote (r .reply) (r .written) left
-seen (tick output) r left = wrote (r .reply) (r .written) left
+seen (hear id dlc payload output) r left = heard (r .reply) (r .told) (r .written) left
+seen (tick output) r left = ticked (r .reply) (r .dropped) (r .delivered) (r .written) left
 seen (request s payload) r left = replied r
 seen (nextFrame output) r left = gave (r .reply) (r .id) (r .len) left
 

@@ -7,14 +7,14 @@ use wire::ids::BusId;
 use wire::ids::Stream;
 ghost use mathlib.Core.Path.{_≡_};
 ghost use Rattle.wire.specs.Delivered.{over};
-ghost use Rattle.node.specs.Nodes.{fresh, asAnswered, asDelivered, asGiven};
+ghost use Rattle.node.specs.Nodes.{fresh, asAnswered, asHeard, asTicked, asGiven};
 ghost use Rattle.node.specs.Clock.{rolled};
 ghost use Rattle.node.specs.SetUp.{setUp};
 ghost use Rattle.node.specs.Hear.{hear};
 ghost use Rattle.node.specs.Tick.{tick};
 ghost use Rattle.node.specs.Request.{request};
 ghost use Rattle.node.specs.NextFrame.{nextFrame};
-ghost use Rattle.firmware.specs.Answers.{answeredC, deliveredC, givenC};
+ghost use Rattle.firmware.specs.Answers.{answeredC, heardC, tickedC, givenC};
 ghost use Rattle.firmware.specs.Judged.{inNumbers};
 
 // What set up and request answer.
@@ -24,11 +24,22 @@ pub struct AnsweredC {
     pub reply: u32,
 }
 
-// What hear and tick answer.
+// What hear answers.
 #[repr(C)]
-pub struct DeliveredC {
+pub struct HeardC {
     pub node: Node,
     pub reply: u32,
+    pub told: u32,
+    pub written: usize,
+}
+
+// What tick answers.
+#[repr(C)]
+pub struct TickedC {
+    pub node: Node,
+    pub reply: u32,
+    pub dropped: u32,
+    pub delivered: u32,
     pub written: usize,
 }
 
@@ -52,7 +63,7 @@ pub extern "C" fn kosmydore_fresh() -> Node
 pub extern "C" fn kosmydore_set_up(node: Node, stream: u32, settings: SettingsC) -> AnsweredC
     ensures { λ r. ⌜ r ≡ answeredC (asAnswered (setUp (record { 0 = stream }) (inNumbers settings) node)) ⌝ }
 {
-    let judged = settings_of(stream, settings);
+    let judged = settings_of(settings);
     let answer = node.set_up(Stream(stream), judged);
     let after = answer.node;
     let reply = answer.reply;
@@ -69,32 +80,36 @@ pub extern "C" fn kosmydore_hear(
     dlc: u32,
     payload: &[u8],
     out: &mut [u8],
-) -> DeliveredC
-    ensures { λ r. ⌜ (r ≡ deliveredC (asDelivered (hear (record { 0 = id }) dlc (now (payload .entry)) (now (out .entry)) node)))
+) -> HeardC
+    ensures { λ r. ⌜ (r ≡ heardC (asHeard (hear (record { 0 = id }) dlc (now (payload .entry)) (now (out .entry)) node)))
         × (now (out .exit) ≡ over (hear (record { 0 = id }) dlc (now (payload .entry)) (now (out .entry)) node .bytes) (now (out .entry))) ⌝ }
 {
     let judged = dlc_of(dlc);
     let answer = node.hear(BusId(id), judged, payload, out);
     let after = answer.node;
     let reply = answer.reply;
-    DeliveredC {
+    let told = answer.told;
+    HeardC {
         node: after,
         reply: reply.number(),
+        told: told.number(),
         written: answer.written,
     }
 }
 
 #[no_mangle]
-pub extern "C" fn kosmydore_tick(node: Node, out: &mut [u8]) -> DeliveredC
-    ensures { λ r. ⌜ (r ≡ deliveredC (asDelivered (tick rolled (now (out .entry)) node)))
+pub extern "C" fn kosmydore_tick(node: Node, out: &mut [u8]) -> TickedC
+    ensures { λ r. ⌜ (r ≡ tickedC (asTicked (tick rolled (now (out .entry)) node)))
         × (now (out .exit) ≡ over (tick rolled (now (out .entry)) node .bytes) (now (out .entry))) ⌝ }
 {
     let answer = node.tick(out);
     let after = answer.node;
     let reply = answer.reply;
-    DeliveredC {
+    TickedC {
         node: after,
         reply: reply.number(),
+        dropped: answer.dropped,
+        delivered: answer.delivered,
         written: answer.written,
     }
 }

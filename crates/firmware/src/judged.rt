@@ -2,7 +2,6 @@
 // becomes a value that they refuse.
 use wire::frame::MAX_DLC;
 use wire::settings::Settings;
-use wire::settings::legal_numbers;
 ghost use mathlib.Core.Path.{_≡_};
 ghost use Rattle.firmware.specs.Judged.{dlcOf, settingsOf};
 
@@ -23,6 +22,11 @@ const NO_DLC: u8 = MAX_DLC + 1;
 // No role, so that these settings are refused.
 const NO_ROLE: u8 = Settings::SEND + 1;
 
+// The highest numbers of one byte and of two.
+const MAX_ONE_BYTE: u32 = 255;
+
+const MAX_TWO_BYTES: u32 = 65535;
+
 pub(crate) fn dlc_of(dlc: u32) -> u8
     ensures { λ r. ⌜ r ≡ dlcOf dlc ⌝ }
 {
@@ -33,18 +37,17 @@ pub(crate) fn dlc_of(dlc: u32) -> u8
     }
 }
 
-pub(crate) fn settings_of(stream: u32, settings: SettingsC) -> Settings
-    ensures { λ r. ⌜ r ≡ settingsOf (record { 0 = stream }) settings ⌝ }
+// Only whether the numbers fit is tested here: the node's call tests whether they are legal.
+pub(crate) fn settings_of(settings: SettingsC) -> Settings
+    ensures { λ r. ⌜ r ≡ settingsOf settings ⌝ }
 {
-    if legal_numbers(
-        stream,
-        settings.role,
-        settings.class,
-        settings.rd,
-        settings.dc,
-        settings.ra,
-        settings.dd,
-    ) {
+    let fits = (settings.role <= MAX_ONE_BYTE)
+        & (settings.class <= MAX_ONE_BYTE)
+        & (settings.rd <= MAX_TWO_BYTES)
+        & (settings.dc <= MAX_TWO_BYTES)
+        & (settings.ra <= MAX_TWO_BYTES)
+        & (settings.dd <= MAX_TWO_BYTES);
+    if fits {
         return Settings::of(
             settings.role as u8,
             settings.class as u8,

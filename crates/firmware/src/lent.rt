@@ -20,12 +20,22 @@ ghost use Rattle.node_bytes.specs.Lent.{freshReply, freshIn};
 ghost use Rattle.node_bytes.specs.LentCalls.{lentOutcome, Leaves};
 ghost use Rattle.module.specs.Tallies.{hasCount, countedIn};
 ghost use Rattle.firmware.specs.Judged.{inNumbers};
-ghost use Rattle.firmware.specs.Lent.{writtenC, givenOutC, Counts};
+ghost use Rattle.firmware.specs.Lent.{lentHeardC, lentTickedC, givenOutC, Counts};
 
-// What hear and tick answer.
+// What hear answers.
 #[repr(C)]
-pub struct WrittenC {
+pub struct LentHeardC {
     pub reply: u32,
+    pub told: u32,
+    pub written: usize,
+}
+
+// What tick answers.
+#[repr(C)]
+pub struct LentTickedC {
+    pub reply: u32,
+    pub dropped: u32,
+    pub delivered: u32,
     pub written: usize,
 }
 
@@ -68,7 +78,7 @@ pub extern "C" fn kosmydore_module_set_up(
     ensures tally { λ _. ⌜ Counts (Call.setUp (record { 0 = stream }) (inNumbers settings))
         (now (bytes .entry)) (now (tally .entry)) (now (tally .exit)) ⌝ }
 {
-    let judged = settings_of(stream, settings);
+    let judged = settings_of(settings);
     let reply = set_up(bytes, Stream(stream), judged);
     let number = reply.number();
     count_in(tally, number);
@@ -83,9 +93,9 @@ pub extern "C" fn kosmydore_module_hear(
     payload: &[u8],
     out: &mut [u8],
     tally: &mut [u32],
-) -> WrittenC
+) -> LentHeardC
     ensures answer { λ r. ⌜ r
-        ≡ writtenC (lentOutcome (Call.hear (record { 0 = id }) dlc (now (payload .entry)) (now (out .entry))) (now (bytes .entry))) ⌝ }
+        ≡ lentHeardC (lentOutcome (Call.hear (record { 0 = id }) dlc (now (payload .entry)) (now (out .entry))) (now (bytes .entry))) ⌝ }
     ensures output { λ _. ⌜ now (out .exit)
         ≡ over (lentOutcome (Call.hear (record { 0 = id }) dlc (now (payload .entry)) (now (out .entry))) (now (bytes .entry)) .bytes)
         (now (out .entry)) ⌝ }
@@ -99,8 +109,10 @@ pub extern "C" fn kosmydore_module_hear(
     let reply = answer.reply;
     let number = reply.number();
     count_in(tally, number);
-    WrittenC {
+    let told = answer.told;
+    LentHeardC {
         reply: number,
+        told: told.number(),
         written: answer.written,
     }
 }
@@ -110,8 +122,8 @@ pub extern "C" fn kosmydore_module_tick(
     bytes: &mut [u8],
     out: &mut [u8],
     tally: &mut [u32],
-) -> WrittenC
-    ensures answer { λ r. ⌜ r ≡ writtenC (lentOutcome (Call.tick (now (out .entry))) (now (bytes .entry))) ⌝ }
+) -> LentTickedC
+    ensures answer { λ r. ⌜ r ≡ lentTickedC (lentOutcome (Call.tick (now (out .entry))) (now (bytes .entry))) ⌝ }
     ensures output { λ _. ⌜ now (out .exit)
         ≡ over (lentOutcome (Call.tick (now (out .entry))) (now (bytes .entry)) .bytes) (now (out .entry)) ⌝ }
     ensures bytes { λ _. ⌜ Leaves (Call.tick (now (out .entry))) (now (bytes .entry)) (now (bytes .exit)) ⌝ }
@@ -121,8 +133,10 @@ pub extern "C" fn kosmydore_module_tick(
     let reply = answer.reply;
     let number = reply.number();
     count_in(tally, number);
-    WrittenC {
+    LentTickedC {
         reply: number,
+        dropped: answer.dropped,
+        delivered: answer.delivered,
         written: answer.written,
     }
 }

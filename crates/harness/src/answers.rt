@@ -1,5 +1,6 @@
 // The state that the lines drive, and the answers to them.
 use bench_in_code::Bench;
+use bench_in_code::Nodes;
 use text::Buffer;
 use text::output;
 use wire::reply::Reply;
@@ -24,22 +25,11 @@ impl State {
     pub const LEAST: usize = 2;
 
     // A bench of so many fresh modules.
-    pub(crate) fn of(modules: usize) -> State {
+    pub(crate) fn of(modules: usize, nodes: &mut Nodes) -> State {
         State {
-            bench: Bench::of(modules),
+            bench: Bench::of(modules, nodes),
             modules,
             ticks: 0,
-        }
-    }
-
-    // The same but for the bench.
-    pub(crate) fn with(self, bench: Bench) -> State
-        ensures { λ r. ⌜ (r .bench ≡ bench) × ((r .modules ≡ self .modules) × (r .ticks ≡ self .ticks)) ⌝ }
-    {
-        State {
-            bench,
-            modules: self.modules,
-            ticks: self.ticks,
         }
     }
 }

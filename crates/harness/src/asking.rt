@@ -5,6 +5,8 @@ use crate::answers::State;
 use crate::lines::Verb;
 use crate::names;
 use crate::ticking;
+use bench_in_code::Nodes;
+use bench_in_code::Outputs;
 use text::Buffer;
 use text::numbers;
 use text::part;
@@ -17,14 +19,22 @@ use wire::reply::Reply;
 // The most bytes of a payload that can be read.
 const PAYLOAD: usize = 64;
 
-pub(crate) fn line(verb: Verb, state: State, line: &[u8], out: &mut Buffer, to: usize) -> Answer {
+pub(crate) fn line(
+    verb: Verb,
+    state: State,
+    nodes: &mut Nodes,
+    line: &[u8],
+    outs: &mut Outputs,
+    out: &mut Buffer,
+    to: usize,
+) -> Answer {
     let w = words::word_at(line, 0);
     let at = w.next;
     match verb {
-        Verb::Tick => ticking::tick(state, line, at, out, to),
-        Verb::Ticks => ticking::ticks(state, line, at, out, to),
-        Verb::SetUp => setup(state, line, at, out, to),
-        Verb::Request => request(state, line, at, out, to),
+        Verb::Tick => ticking::tick(state, nodes, line, at, outs, out, to),
+        Verb::Ticks => ticking::ticks(state, nodes, line, at, outs, out, to),
+        Verb::SetUp => setup(state, nodes, line, at, out, to),
+        Verb::Request => request(state, nodes, line, at, out, to),
         Verb::Death => death(state, line, at, out, to),
         Verb::Unknown => answers::unread(state, out, to),
         _ => Answer { state, to },
@@ -32,15 +42,22 @@ pub(crate) fn line(verb: Verb, state: State, line: &[u8], out: &mut Buffer, to: 
 }
 
 // setup M STREAM ROLE CLASS RD DC RA DD
-fn setup(state: State, line: &[u8], at: usize, out: &mut Buffer, to: usize) -> Answer {
+fn setup(
+    state: State,
+    nodes: &mut Nodes,
+    line: &[u8],
+    at: usize,
+    out: &mut Buffer,
+    to: usize,
+) -> Answer {
     let who = names::module_at(line, at, state.modules);
     let read = settings_at(line, who.next);
     if who.ok & read.ok & words::done(line, read.next) {
         let bench = state.bench;
-        let asked = bench.set_up(who.value, read.stream, read.settings);
+        let asked = bench.set_up(nodes, who.value, read.stream, read.settings);
         let reply = asked.reply;
         return Answer {
-            state: state.with(asked.bench),
+            state,
             to: answers::put_reply(out, to, reply),
         };
     }
@@ -48,7 +65,14 @@ fn setup(state: State, line: &[u8], at: usize, out: &mut Buffer, to: usize) -> A
 }
 
 // request M STREAM PAYLOAD
-fn request(state: State, line: &[u8], at: usize, out: &mut Buffer, to: usize) -> Answer {
+fn request(
+    state: State,
+    nodes: &mut Nodes,
+    line: &[u8],
+    at: usize,
+    out: &mut Buffer,
+    to: usize,
+) -> Answer {
     let mut bytes = [0u8; PAYLOAD];
     let who = names::module_at(line, at, state.modules);
     let stream = numbers::u32_at(line, who.next, u32::MAX);
@@ -56,13 +80,14 @@ fn request(state: State, line: &[u8], at: usize, out: &mut Buffer, to: usize) ->
     if who.ok & stream.ok & payload.ok & words::done(line, payload.next) {
         let bench = state.bench;
         let asked = bench.request(
+            nodes,
             who.value,
             Stream(stream.value),
             part(&bytes, 0, payload.len),
         );
         let reply = asked.reply;
         return Answer {
-            state: state.with(asked.bench),
+            state,
             to: put_asked(out, to, asked.there, reply),
         };
     }
@@ -83,7 +108,11 @@ fn death(state: State, line: &[u8], at: usize, out: &mut Buffer, to: usize) -> A
     if who.ok & words::done(line, who.next) {
         let bench = state.bench;
         return Answer {
-            state: state.with(bench.death(who.value)),
+            state: State {
+                bench: bench.death(who.value),
+                modules: state.modules,
+                ticks: state.ticks,
+            },
             to: answers::put_dead(out, to),
         };
     }

@@ -5,6 +5,7 @@ use crate::lines::Verb;
 use crate::names;
 use bench_in_code::Bench;
 use bench_in_code::Giving;
+use bench_in_code::Nodes;
 use bench_in_code::outbox::Frame;
 use bench_in_code::outbox::Frames;
 use text::Buffer;
@@ -25,6 +26,7 @@ pub struct Gave {
 pub(crate) fn line(
     verb: Verb,
     state: State,
+    nodes: &mut Nodes,
     frames: Frames,
     line: &[u8],
     out: &mut Buffer,
@@ -32,15 +34,16 @@ pub(crate) fn line(
 ) -> Gave {
     let w = words::word_at(line, 0);
     if let Verb::Give = verb {
-        give(state, frames, line, w.next, out, to)
+        give(state, nodes, frames, line, w.next, out, to)
     } else {
-        modules(state, frames, line, w.next, out, to)
+        modules(state, nodes, frames, line, w.next, out, to)
     }
 }
 
 // modules N
 fn modules(
     state: State,
+    nodes: &mut Nodes,
     frames: Frames,
     line: &[u8],
     at: usize,
@@ -52,7 +55,7 @@ fn modules(
         let past = output::put(out, to, b"modules ");
         return Gave {
             frames: Frames::none(),
-            state: State::of(n.value),
+            state: State::of(n.value, nodes),
             to: output::put_decimal(out, past, n.value as u64),
         };
     }
@@ -60,18 +63,25 @@ fn modules(
 }
 
 // give M
-fn give(state: State, frames: Frames, line: &[u8], at: usize, out: &mut Buffer, to: usize) -> Gave {
+fn give(
+    state: State,
+    nodes: &mut Nodes,
+    frames: Frames,
+    line: &[u8],
+    at: usize,
+    out: &mut Buffer,
+    to: usize,
+) -> Gave {
     let who = names::module_at(line, at, state.modules);
     if who.ok & words::done(line, who.next) {
         let bench = state.bench;
-        let gave = bench.give(who.value, frames);
+        let gave = bench.give(nodes, who.value, frames);
         let kept = gave.frames;
-        let after = gave.bench;
         let giving = gave.giving;
         let frame = gave.frame;
         return Gave {
             frames: kept,
-            state: state.with(after),
+            state,
             to: put_giving(out, to, giving, frames.count, frame),
         };
     }

@@ -1,7 +1,9 @@
 // Runs a bench history by lines of text, one answer line for each line that is not skipped.
 use crate::answers::State;
 use crate::lines::Route;
+use bench_in_code::Bench;
 use bench_in_code::outbox::Frames;
+use bench_in_code::stations;
 use text::SIZE;
 use text::comments;
 use text::input;
@@ -21,7 +23,9 @@ fn main() {
     let mut out = [0u8; SIZE];
     let mut input = Input::new();
     let mut comment = false;
-    let mut state = State::of(0);
+    let mut nodes = [stations::FRESH; Bench::PLACES];
+    let mut outs = [stations::CLEAR; Bench::PLACES];
+    let mut state = State::of(0, &mut nodes);
     let mut frames = Frames::none();
     let mut to = 0;
     let mut turns = u64::MAX;
@@ -34,19 +38,28 @@ fn main() {
         let route = lines::route_of(verb);
         match route {
             Route::Giving => {
-                let gave = giving::line(verb, state, frames, line, &mut out, to);
+                let gave = giving::line(verb, state, &mut nodes, frames, line, &mut out, to);
                 frames = gave.frames;
                 state = gave.state;
                 to = gave.to;
             }
             Route::Sending => {
                 let named = sending::frame_in(frames, line);
-                let answer = sending::line(verb, state, named, line, &mut out, to);
+                let answer = sending::line(
+                    verb,
+                    state,
+                    &mut nodes,
+                    named,
+                    line,
+                    &mut outs,
+                    &mut out,
+                    to,
+                );
                 state = answer.state;
                 to = answer.to;
             }
             Route::Other => {
-                let answer = asking::line(verb, state, line, &mut out, to);
+                let answer = asking::line(verb, state, &mut nodes, line, &mut outs, &mut out, to);
                 state = answer.state;
                 to = answer.to;
             }

@@ -1,11 +1,11 @@
-// What a module delivered: records one after the other.
+// What a module dropped and delivered at a tick: how many, and records one after the other.
 use text::Buffer;
 use text::output;
 use text::part;
 use wire::delivered::RecordAt;
 use wire::delivered::record_at;
 
-// When and where records were delivered.
+// When and where.
 pub struct Place {
     pub module: usize,
     pub tick: u64,
@@ -27,6 +27,16 @@ pub(crate) fn put_all(out: &mut Buffer, to: usize, place: Place, records: &[u8])
         at = record.next;
     }
     past
+}
+
+// ` TICK:M:dropped:N`, without the tick where it is not asked for; nothing where none was dropped.
+pub(crate) fn put_dropped(out: &mut Buffer, to: usize, place: Place, dropped: u32) -> usize {
+    if dropped == 0 {
+        return to;
+    }
+    let start = put_place(out, to, place);
+    let past = output::put(out, start, b"dropped:");
+    output::put_decimal(out, past, dropped as u64)
 }
 
 fn put_place(out: &mut Buffer, to: usize, place: Place) -> usize {

@@ -6,12 +6,16 @@ use crate::lines::Verb;
 use crate::names;
 use crate::records;
 use bench_in_code::Bench;
+use bench_in_code::Nodes;
+use bench_in_code::Outputs;
+use bench_in_code::Sending;
 use bench_in_code::outbox::Frame;
 use bench_in_code::outbox::Frames;
-use bench_in_code::stations::Said;
+use bench_in_code::stations::Spoken;
 use text::Buffer;
 use text::output;
 use text::part;
+use text::told::put_told;
 use text::words;
 
 // The frame that a line names, and the index of the next word.
@@ -40,34 +44,52 @@ struct Hearers {
 pub(crate) fn line(
     verb: Verb,
     state: State,
+    nodes: &mut Nodes,
     named: Named,
     line: &[u8],
+    outs: &mut Outputs,
     out: &mut Buffer,
     to: usize,
 ) -> Answer {
     if let Verb::Full = verb {
-        full(state, named, line, out, to)
+        full(state, nodes, named, line, outs, out, to)
     } else {
-        short(state, named, line, out, to)
+        short(state, nodes, named, line, outs, out, to)
     }
 }
 
 // full F
-fn full(state: State, named: Named, line: &[u8], out: &mut Buffer, to: usize) -> Answer {
+fn full(
+    state: State,
+    nodes: &mut Nodes,
+    named: Named,
+    line: &[u8],
+    outs: &mut Outputs,
+    out: &mut Buffer,
+    to: usize,
+) -> Answer {
     if named.ok & words::done(line, named.next) {
         let frame = named.frame;
-        return send(state, frame, [true; Bench::PLACES], out, to);
+        return send(state, nodes, frame, [true; Bench::PLACES], outs, out, to);
     }
     answers::unread(state, out, to)
 }
 
 // short F [M ...]
-fn short(state: State, named: Named, line: &[u8], out: &mut Buffer, to: usize) -> Answer {
+fn short(
+    state: State,
+    nodes: &mut Nodes,
+    named: Named,
+    line: &[u8],
+    outs: &mut Outputs,
+    out: &mut Buffer,
+    to: usize,
+) -> Answer {
     let hearers = hearers_at(line, named.next, state.modules);
     if named.ok & hearers.ok {
         let frame = named.frame;
         let names = hearers.to;
-        return send(state, frame, names, out, to);
+        return send(state, nodes, frame, names, outs, out, to);
     }
     answers::unread(state, out, to)
 }
@@ -89,30 +111,32 @@ fn hearers_at(line: &[u8], at: usize, modules: usize) -> Hearers {
 
 fn send(
     state: State,
+    nodes: &mut Nodes,
     frame: Frame,
     hearers: [bool; Bench::PLACES],
+    outs: &mut Outputs,
     out: &mut Buffer,
     to: usize,
 ) -> Answer {
     let bench = state.bench;
-    let sent = bench.send(frame, hearers);
-    let said = sent.said;
+    let sent = bench.send(nodes, frame, hearers, outs);
     Answer {
-        state: state.with(sent.bench),
-        to: put_sent(out, to, sent.sent, said),
+        state,
+        to: put_sent(out, to, sent, outs),
     }
 }
 
-fn put_sent(out: &mut Buffer, to: usize, sent: bool, said: [Said; Bench::PLACES]) -> usize {
-    if !sent {
+fn put_sent(out: &mut Buffer, to: usize, sent: Sending, outs: &Outputs) -> usize {
+    if !sent.sent {
         return answers::put_dead(out, to);
     }
+    let said = sent.said;
     let mut past = to;
     let mut heard = false;
     let mut i = 0;
     while i < Bench::PLACES {
         let s = said[i];
-        past = put_hearing(out, past, i, heard, s);
+        past = put_hearing(out, past, i, heard, s, &outs[i]);
         heard = heard | s.heard;
         i += 1;
     }
@@ -123,22 +147,33 @@ fn put_sent(out: &mut Buffer, to: usize, sent: bool, said: [Said; Bench::PLACES]
     }
 }
 
-// `M:REPLY`, and `:STREAM:PAYLOAD` where hearing delivered; a space before it where another heard before. Nothing of one that
-// did not hear.
-fn put_hearing(out: &mut Buffer, to: usize, module: usize, more: bool, said: Said) -> usize {
+// `M:REPLY` of a refusal, else `M:0:TOLD`, and `:STREAM:PAYLOAD` where hearing delivered; a space before it where another heard
+// before. Nothing of one that did not hear.
+fn put_hearing(
+    out: &mut Buffer,
+    to: usize,
+    module: usize,
+    more: bool,
+    said: Spoken,
+    bytes: &[u8],
+) -> usize {
     if !said.heard {
         return to;
     }
     let start = put_space(out, to, more);
     let mid = output::put_parted(out, start, module as u64, b':');
     let reply = said.reply;
-    let past = answers::put_reply(out, mid, reply);
+    if reply.number() != 0 {
+        return answers::put_reply(out, mid, reply);
+    }
+    let done = output::put_parted(out, mid, 0, b':');
+    let told = said.told;
+    let past = put_told(out, done, told.number());
     if said.len == 0 {
         return past;
     }
-    let bytes = said.bytes;
     let end = output::put_byte(out, past, b':');
-    records::put_first(out, end, part(&bytes, 0, said.len))
+    records::put_first(out, end, part(bytes, 0, said.len))
 }
 
 fn put_space(out: &mut Buffer, to: usize, wanted: bool) -> usize {

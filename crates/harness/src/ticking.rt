@@ -1,11 +1,13 @@
-// Common ticks, and what they delivered.
+// Common ticks, and what they dropped and delivered.
 use crate::answers;
 use crate::answers::Answer;
 use crate::answers::State;
 use crate::records;
 use crate::records::Place;
 use bench_in_code::Bench;
-use bench_in_code::stations::Said;
+use bench_in_code::Nodes;
+use bench_in_code::Outputs;
+use bench_in_code::stations::Spoken;
 use text::Buffer;
 use text::numbers;
 use text::output;
@@ -16,22 +18,38 @@ use text::words;
 const TICKS: u64 = 1000000;
 
 // tick
-pub(crate) fn tick(state: State, line: &[u8], at: usize, out: &mut Buffer, to: usize) -> Answer {
+pub(crate) fn tick(
+    state: State,
+    nodes: &mut Nodes,
+    line: &[u8],
+    at: usize,
+    outs: &mut Outputs,
+    out: &mut Buffer,
+    to: usize,
+) -> Answer {
     if (state.modules == 0) | !words::done(line, at) {
         return answers::unread(state, out, to);
     }
     let past = output::put_decimal(out, to, later(state.ticks, 1));
-    run(state, 1, false, out, past)
+    run(state, nodes, 1, false, outs, out, past)
 }
 
 // ticks N
-pub(crate) fn ticks(state: State, line: &[u8], at: usize, out: &mut Buffer, to: usize) -> Answer {
+pub(crate) fn ticks(
+    state: State,
+    nodes: &mut Nodes,
+    line: &[u8],
+    at: usize,
+    outs: &mut Outputs,
+    out: &mut Buffer,
+    to: usize,
+) -> Answer {
     let n = numbers::number_at(line, at, TICKS);
     if (state.modules == 0) | !n.ok | !words::done(line, n.next) {
         return answers::unread(state, out, to);
     }
     let past = output::put_decimal(out, to, later(state.ticks, n.value));
-    run(state, n.value, true, out, past)
+    run(state, nodes, n.value, true, outs, out, past)
 }
 
 // The count does not come round in any time that a program runs.
@@ -39,19 +57,25 @@ fn later(ticks: u64, n: u64) -> u64 {
     std::num::wrapping_add_u64(ticks, n)
 }
 
-// So many ticks, with what each delivered.
-fn run(state: State, n: u64, dated: bool, out: &mut Buffer, to: usize) -> Answer {
-    let mut bench = state.bench;
+// So many ticks, with what each dropped and delivered.
+fn run(
+    state: State,
+    nodes: &mut Nodes,
+    n: u64,
+    dated: bool,
+    outs: &mut Outputs,
+    out: &mut Buffer,
+    to: usize,
+) -> Answer {
+    let bench = state.bench;
     let mut tick = state.ticks;
     let mut past = to;
     let mut left = n;
     while left > 0 {
         left -= 1;
         tick = later(tick, 1);
-        let told = bench.tick();
-        bench = told.bench;
-        let said = told.said;
-        past = put_told(out, past, said, tick, dated);
+        let said = bench.tick(nodes, outs);
+        past = put_told(out, past, said, outs, tick, dated);
     }
     Answer {
         state: State {
@@ -66,7 +90,8 @@ fn run(state: State, n: u64, dated: bool, out: &mut Buffer, to: usize) -> Answer
 fn put_told(
     out: &mut Buffer,
     to: usize,
-    said: [Said; Bench::PLACES],
+    said: [Spoken; Bench::PLACES],
+    outs: &Outputs,
     tick: u64,
     dated: bool,
 ) -> usize {
@@ -79,13 +104,9 @@ fn put_told(
             tick,
             dated,
         };
-        past = put_said(out, past, place, s);
+        past = records::put_dropped(out, past, place, s.dropped);
+        past = records::put_all(out, past, place, part(&outs[i], 0, s.len));
         i += 1;
     }
     past
-}
-
-fn put_said(out: &mut Buffer, to: usize, place: Place, said: Said) -> usize {
-    let bytes = said.bytes;
-    records::put_all(out, to, place, part(&bytes, 0, said.len))
 }

@@ -9,7 +9,7 @@ use lib.ListN.{length}
 use lib.Dec.{ltb}
 use Rattle.wire.specs.Frames.{maxPayload}
 use Rattle.wire.specs.Delivered.{following, isCut}
-use Rattle.wire.proofs.Frames.{neither}
+use Rattle.wire.proofs.Reading.{neither}
 use Rattle.heard.specs.declared.reply.Reply.the-variants.{CutRecord, UnknownKind, BadRecordLength}
 use Rattle.heard.specs.declared.reading.HeardAt.{HeardAt}
 use Rattle.heard.specs.Kinds.{countBytes, isKnown, headLength}

@@ -10,7 +10,7 @@ use lib.ListN.{length, getD, take, drop, length-append, List·getD-append, lengt
 use lib.Seq.{drop-append-add, drop-append-le, take-append-le}
 use lib.Dec.{ltb}
 use Rattle.wire.specs.Delivered.{numberAt, following, isCut}
-use Rattle.wire.proofs.Frames.{neither}
+use Rattle.wire.proofs.Reading.{neither}
 use Rattle.wire.proofs.Reading.{behind, number-behind}
 use Rattle.heard.specs.declared.reply.Reply.the-variants.{CutRecord}
 use Rattle.heard.specs.declared.reading.HeardAt.{HeardAt}

@@ -1,4 +1,4 @@
--- The three answers of the node's calls: what a call of a module asks of each.
+-- The four answers of the node's calls: what a call of a module asks of each.
 use mathlib.Core.Path.{_≡_, refl, ap}
 use mathlib.Core.List.{[], _∷_}
 use Prim.Native.Nat.{ℕ, _+_}
@@ -23,8 +23,10 @@ use Rattle.wire.specs.declared.reply.Reply.{Reply}
 use Rattle.wire.proofs.reply.Reply as S
 use Rattle.node.proofs.Answered as N
 use Rattle.node.proofs.Answered.Laws as N′
-use Rattle.node.proofs.Delivered as D
-use Rattle.node.proofs.Delivered.Laws as D′
+use Rattle.node.proofs.Heard as R
+use Rattle.node.proofs.Heard.Laws as R′
+use Rattle.node.proofs.Ticked as K
+use Rattle.node.proofs.Ticked.Laws as K′
 use Rattle.node.proofs.Given as G
 use Rattle.node.proofs.Given.Laws as G′
 use Rattle.module.proofs.Counting.{replyVal}
@@ -59,10 +61,15 @@ module _ {M : Type 1} (𝓤 : URA M) (H : Heap 𝓤) (A : Atoms 𝓤) (W : Model
       of-struct N.the-type N′.the-laws N′.the-plain (λ r. r .reply) N′.mir refl (λ r v is. LL.lawful N.the-type N′.the-laws 𝓤 H A W .typed r _ is .0)
       (λ r is. LL.owed N.the-type N′.the-laws r _ is .1 .0) (λ r b. sub ! 1 refl (whole !))
 
-  abbrev pub delivered : Answer (Go {0}) W D.the-row
-  delivered =
-      of-struct D.the-type D′.the-laws D′.the-plain (λ r. r .reply) D′.mir refl (λ r v is. LL.lawful D.the-type D′.the-laws 𝓤 H A W .typed r _ is .0)
-      (λ r is. LL.owed D.the-type D′.the-laws r _ is .1 .0) (λ r b. sub ! 1 refl (whole !))
+  abbrev pub heard : Answer (Go {0}) W R.the-row
+  heard =
+      of-struct R.the-type R′.the-laws R′.the-plain (λ r. r .reply) R′.mir refl (λ r v is. LL.lawful R.the-type R′.the-laws 𝓤 H A W .typed r _ is .0)
+      (λ r is. LL.owed R.the-type R′.the-laws r _ is .1 .0) (λ r b. sub ! 1 refl (whole !))
+
+  abbrev pub ticked : Answer (Go {0}) W K.the-row
+  ticked =
+      of-struct K.the-type K′.the-laws K′.the-plain (λ r. r .reply) K′.mir refl (λ r v is. LL.lawful K.the-type K′.the-laws 𝓤 H A W .typed r _ is .0)
+      (λ r is. LL.owed K.the-type K′.the-laws r _ is .1 .0) (λ r b. sub ! 1 refl (whole !))
 
   abbrev pub given : Answer (Go {0}) W G.the-row
   given =

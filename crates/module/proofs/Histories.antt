@@ -10,6 +10,7 @@ use Rattle.wire.specs.declared.settings.Settings.{Settings}
 use Rattle.wire.specs.Delivered.{over}
 use Rattle.node.specs.declared.Node.{Node}
 use Rattle.node.specs.Nodes.{Outcome, noId}
+use Rattle.node.specs.Told.{Report, silent, ofFrame, ofTick}
 use Rattle.node.specs.Clock.{rolled, unbounded}
 use Rattle.node.specs.SetUp as set-up
 use Rattle.node.specs.Hear as hearing
@@ -22,6 +23,7 @@ use Rattle.node.proofs.set_up.Cases.{set-up-cases}
 use Rattle.node.proofs.hear.Cases.{hear-cases}
 use Rattle.node.proofs.tick.Cases.{tick-cases}
 use Rattle.node.proofs.request.Cases.{request-cases}
+use Rattle.node.proofs.next_frame.Cases.{next-cases}
 use Rattle.node.proofs.rollover.SameAnswers.{same-answers}
 use Rattle.module.specs.declared.tally.Tally.{Tally}
 use Rattle.module.specs.Tallies.{talliedAll, tallyOf}
@@ -55,47 +57,57 @@ module-tally-unbounded calls = module-tally calls ∙ ap (λ (xs : List Answer).
 front : (bytes output : List ℕ) → take (length bytes) (over bytes output) ≡ bytes
 front bytes output = take-append-seam bytes (drop (length bytes) output)
 
--- a call that gives out no frame has no identifier, and one that is lent no output writes nothing
-abbrev NoFrame : Outcome → Type 0
-NoFrame o = o .id ≡ noId
-
+-- a call that gives out no frame has no identifier, one that is lent no output writes nothing, and each tells its own part of a report alone
 abbrev Silent : Outcome → Type 0
-Silent o = (o .id ≡ noId) × (o .bytes ≡ [])
+Silent o = (o .id ≡ noId) × (o .bytes ≡ []) × (o .report ≡ silent)
+
+abbrev OfFrame : Outcome → Type 0
+OfFrame o = (o .id ≡ noId) × (o .report ≡ ofFrame (o .report .frame))
+
+abbrev OfTick : Outcome → Type 0
+OfTick o = (o .id ≡ noId) × (o .report ≡ ofTick (o .report .dropped) (o .report .delivered))
+
+abbrev TellsNone : Outcome → Type 0
+TellsNone o = o .report ≡ silent
 
 set-up-silent : (s : Stream) (settings : Settings) (n : Node) → Silent (set-up.setUp s settings n)
-set-up-silent s settings n = by-case Silent (λ r why. (refl, refl)) (λ h. (refl, refl)) (set-up-cases s settings n .case)
+set-up-silent s settings n = by-case Silent (λ r why. (refl, refl, refl)) (λ h. (refl, refl, refl)) (set-up-cases s settings n .case)
 
 request-silent : (s : Stream) (payload : List ℕ) (n : Node) → Silent (requesting.request s payload n)
-request-silent s payload n = by-case Silent (λ r why. (refl, refl)) (λ h. (refl, refl)) (request-cases payload s n .case)
+request-silent s payload n = by-case Silent (λ r why. (refl, refl, refl)) (λ h. (refl, refl, refl)) (request-cases payload s n .case)
 
-hear-no-frame : (id : BusId) (dlc : ℕ) (payload output : List ℕ) (n : Node) → NoFrame (hearing.hear id dlc payload output n)
-hear-no-frame id dlc payload output n = by-case NoFrame (λ r why. refl) (λ h. refl) (hear-cases id dlc payload output n .case)
+hear-of-frame : (id : BusId) (dlc : ℕ) (payload output : List ℕ) (n : Node) → OfFrame (hearing.hear id dlc payload output n)
+hear-of-frame id dlc payload output n = by-case OfFrame (λ r why. (refl, refl)) (λ h. (refl, refl)) (hear-cases id dlc payload output n .case)
 
-tick-no-frame : (output : List ℕ) (n : Node) → NoFrame (ticking.tick rolled output n)
-tick-no-frame output n = by-case NoFrame (λ r why. refl) (λ h. refl) (tick-cases output rolled n .case)
+tick-of-tick : (output : List ℕ) (n : Node) → OfTick (ticking.tick rolled output n)
+tick-of-tick output n = by-case OfTick (λ r why. (refl, refl)) (λ h. (refl, refl)) (tick-cases output rolled n .case)
+
+next-tells-none : (output : List ℕ) (n : Node) → TellsNone (giving.nextFrame output n)
+unfolding giving.give
+next-tells-none output n = by-case TellsNone (λ r why. refl) (λ h. refl) (next-cases output n .case)
 
 -- an answer, by its parts
-answer-is : (o : Outcome) {id : BusId} {bytes : List ℕ} → o .id ≡ id → bytes ≡ o .bytes
-    → _≡_ {A = Answer} (record { reply = o .reply; id = id; bytes = bytes }) (answerOf o)
-answer-is o e f = rw (← e, f)
+answer-is : (o : Outcome) {id : BusId} {bytes : List ℕ} {report : Report} → o .id ≡ id → bytes ≡ o .bytes → o .report ≡ report
+    → _≡_ {A = Answer} (record { reply = o .reply; id = id; bytes = bytes; report = report }) (answerOf o)
+answer-is o e f g = rw (← e, f, ← g)
 
 -- what is seen of it is the definition's answer
 pub answers-so : (c : Call) (m : Counting) (r : Returned c) (left : Left c) (t : Tally) → Promised c m r left t
     → seen c r left ≡ answerOf (outcome rolled c (m .node))
 answers-so (setUp s settings) m r left t p =
     let o = set-up.setUp s settings (m .node) in
-    let silent = set-up-silent s settings (m .node) in rw (p .0) (answer-is o (silent .0) (sym (silent .1)))
+    let says = set-up-silent s settings (m .node) in rw (p .0) (answer-is o (says .0) (sym (says .1)) (says .2))
 answers-so (hear id dlc payload output) m r left t p =
     let o = hearing.hear id dlc payload output (m .node) in
-    rw (p .0, p .1) (answer-is o (hear-no-frame id dlc payload output (m .node)) (front (o .bytes) output))
+    let says = hear-of-frame id dlc payload output (m .node) in rw (p .0, p .1) (answer-is o (says .0) (front (o .bytes) output) (says .1))
 answers-so (tick output) m r left t p =
     let o = ticking.tick rolled output (m .node) in
-    rw (p .0, p .1) (answer-is o (tick-no-frame output (m .node)) (front (o .bytes) output))
+    let says = tick-of-tick output (m .node) in rw (p .0, p .1) (answer-is o (says .0) (front (o .bytes) output) (says .1))
 answers-so (request s payload) m r left t p =
     let o = requesting.request s payload (m .node) in
-    let silent = request-silent s payload (m .node) in rw (p .0) (answer-is o (silent .0) (sym (silent .1)))
+    let says = request-silent s payload (m .node) in rw (p .0) (answer-is o (says .0) (sym (says .1)) (says .2))
 answers-so (nextFrame output) m r left t p =
-    let o = giving.nextFrame output (m .node) in rw (p .0, p .1) (answer-is o refl (front (o .bytes) output))
+    let o = giving.nextFrame output (m .node) in rw (p .0, p .1) (answer-is o refl (front (o .bytes) output) (next-tells-none output (m .node)))
 
 -- and it makes a step of the definition
 pub steps-so : (c : Call) (m : Counting) (r : Returned c) (left : Left c) (t : Tally) → Promised c m r left t

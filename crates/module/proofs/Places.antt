@@ -1,13 +1,13 @@
--- Each reply has its place in the tally, where its own number stands; and how a search finds it.
+-- Each reply has its place in the tally, where its own number stands; and how it is computed: the numbers are two runs.
 use mathlib.Core.Path.{_≡_, refl}
-use mathlib.Core.Bool.{Bool, true, _&&_}
-use mathlib.Core.Logic.{_≢_}
-use mathlib.Core.List.{List}
-use Prim.Native.Nat.{ℕ, suc, _<_}
-use lib.ListN.{length, getD, drop}
-use lib.Seq.{drop-cons}
+use mathlib.Core.Bool.{Bool, true, false, cond, _&&_}
+use mathlib.Core.Logic.{_⊎_, inl, inr}
+use mathlib.Core.List.{List, [], _∷_}
+use Prim.Native.Nat.{ℕ, zero, suc, _+_, _-_, _≤_, _<_}
+use native.Mathlib.Omega.{arith}
+use lib.ListN.{length, getD}
 use lib.Dec.{eqb, ltb}
-use borrow.Author.Tests.{eq-eqb, ne-eqb}
+use borrow.Author.Tests.{eqb-true, eqb-false, ne-eqb, ltb-true, ltb-false}
 use Rattle.wire.specs.declared.reply.Reply.{Reply}
 use Rattle.wire.specs.Replies.{numberOf}
 use Rattle.wire.specs.Tells.{Tells, below, equal, _and_}
@@ -15,15 +15,61 @@ use Rattle.wire.proofs.reply.Reply.{enum}
 use Rattle.wire.proofs.Variants.{at-each}
 use Rattle.module.specs.Tallies.{counted, position, placeOf}
 
--- ── the search ──
-module _ (n : ℕ) (xs : List ℕ) (i : ℕ) (inside : i < length xs) where
-  pub found : getD xs i 0 ≡ n → position n (drop i xs) ≡ 0
-  unfolding position
-  found e = rw (drop-cons xs i 0 inside, eq-eqb _ _ e)
+-- ── runs of numbers ──
+-- so many numbers from one on, and then a list
+unfoldable run : (from count : ℕ) → List ℕ → List ℕ
+run from zero rest = rest
+run from (suc count) rest = from ∷ run (suc from) count rest
 
-  pub passed : getD xs i 0 ≢ n → position n (drop i xs) ≡ suc (position n (drop (suc i) xs))
+module _ (n : ℕ) where
+  lower : (from : ℕ) → from ≤ n → (from ≡ n → ⊥) → from < n
+  lower from low other = by-test (ltb from n) refl
+    where
+      by-test : (t : Bool) → ltb from n ≡ t → from < n
+      by-test true h = ltb-true from n h
+      by-test false h = let least = ltb-false from n h in absurd (other (omega arith))
+
+  in-run : (from count : ℕ) (rest : List ℕ) → from ≤ n → n < from + count → position n (run from count rest) ≡ n - from
+  unfolding run position
+  in-run from zero rest low high = absurd (omega arith)
+  in-run from (suc count) rest low high = go (eqb from n) refl (λ h. in-run (suc from) count rest h (omega arith))
+    where
+      go : (b : Bool) → eqb from n ≡ b → (suc from ≤ n → position n (run (suc from) count rest) ≡ n - suc from)
+          → cond b 0 (suc (position n (run (suc from) count rest))) ≡ n - from
+      go true e further = let same = eqb-true from n e in omega arith
+      go false e further = let above = lower from low (eqb-false from n e) in omega (arith, further (omega arith))
+
+  past-run : (from count : ℕ) (rest : List ℕ) → (n < from) ⊎ (from + count ≤ n) → position n (run from count rest) ≡ count + position n rest
+  unfolding run position
+  past-run from zero rest out = omega arith
+  past-run from (suc count) rest (inl h) =
+      let no = ne-eqb from n (λ e. absurd (omega arith)) in
+      rw no (omega (arith, past-run (suc from) count rest (inl (omega arith))))
+  past-run from (suc count) rest (inr h) =
+      let no = ne-eqb from n (λ e. absurd (omega arith)) in
+      rw no (omega (arith, past-run (suc from) count rest (inr (omega arith))))
+
+  -- how many are in the second run: a further number at its end asks for no further proof
+  abbrev second : ℕ
+  second = length counted - 13
+
+  two-runs : counted ≡ run 0 13 (run 18 second [])
+  unfolding run
+  two-runs = refl
+
+  pub in-first : n ≤ 12 → position n counted ≡ n
+  in-first h = rw two-runs (omega (arith, in-run 0 13 (run 18 second []) (omega arith) (omega arith)))
+
+  past-first : 12 < n → position n counted ≡ 13 + position n (run 18 second [])
+  past-first h = rw two-runs (past-run 0 13 (run 18 second []) (inr (omega arith)))
+
+  pub in-second : 17 < n → n < 5 + length counted → position n counted ≡ n - 5
+  in-second low high = omega (arith, past-first (omega arith), in-run 18 second [] (omega arith) (omega arith))
+
+  pub in-none : 12 < n → (n < 18) ⊎ (5 + length counted ≤ n) → position n counted ≡ length counted
   unfolding position
-  passed e = rw (drop-cons xs i 0 inside, ne-eqb _ _ e)
+  in-none low (inl h) = omega (arith, past-first low, past-run 18 second [] (inl h))
+  in-none low (inr h) = omega (arith, past-first low, past-run 18 second [] (inr (omega arith)))
 
 -- ── the places ──
 -- a place, and its own number there: a test that is computed at each reply

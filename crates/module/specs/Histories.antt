@@ -7,9 +7,11 @@ use Rattle.wire.specs.declared.reply.Reply.{Reply}
 use Rattle.wire.specs.Delivered.{over}
 use Rattle.node.specs.declared.Node.{Node}
 use Rattle.node.specs.declared.Answered.{Answered}
-use Rattle.node.specs.declared.Delivered.{Delivered}
+use Rattle.node.specs.declared.Heard.{Heard}
+use Rattle.node.specs.declared.Ticked.{Ticked}
 use Rattle.node.specs.declared.Given.{Given}
-use Rattle.node.specs.Nodes.{fresh, noId, asAnswered, asDelivered, asGiven}
+use Rattle.node.specs.Nodes.{fresh, noId, asAnswered, asHeard, asTicked, asGiven}
+use Rattle.node.specs.Told.{silent, ofFrame, ofTick}
 use Rattle.node.specs.Clock.{rolled, unbounded}
 use Rattle.node.specs.SetUp as set-up
 use Rattle.node.specs.Hear as hearing
@@ -49,8 +51,8 @@ repliesIn xs = map (λ a. a .reply) xs
 -- what a call returns
 abbrev pub Returned : Call → Type 0
 Returned (setUp s settings) = Answered
-Returned (hear id dlc payload output) = Delivered
-Returned (tick output) = Delivered
+Returned (hear id dlc payload output) = Heard
+Returned (tick output) = Ticked
 Returned (request s payload) = Answered
 Returned (nextFrame output) = Given
 
@@ -67,11 +69,11 @@ abbrev pub Promised : (c : Call) → Counting → Returned c → Left c → Tall
 Promised (setUp s settings) m r left t =
     (r ≡ asAnswered (set-up.setUp s settings (m .node))) × (t ≡ tallied (m .tally) (set-up.setUp s settings (m .node) .reply))
 Promised (hear id dlc payload output) m r left t =
-    (r ≡ asDelivered (hearing.hear id dlc payload output (m .node)))
+    (r ≡ asHeard (hearing.hear id dlc payload output (m .node)))
     × (left ≡ over (hearing.hear id dlc payload output (m .node) .bytes) output)
     × (t ≡ tallied (m .tally) (hearing.hear id dlc payload output (m .node) .reply))
 Promised (tick output) m r left t =
-    (r ≡ asDelivered (ticking.tick rolled output (m .node)))
+    (r ≡ asTicked (ticking.tick rolled output (m .node)))
     × (left ≡ over (ticking.tick rolled output (m .node) .bytes) output)
     × (t ≡ tallied (m .tally) (ticking.tick rolled output (m .node) .reply))
 Promised (request s payload) m r left t =
@@ -89,13 +91,14 @@ nodeIn (tick output) r = r .node
 nodeIn (request s payload) r = r .node
 nodeIn (nextFrame output) r = r .node
 
--- its reply, its identifier, and the bytes that it says it wrote
+-- its reply, its identifier, the bytes that it says it wrote, and what it tells
 abbrev pub seen : (c : Call) → Returned c → Left c → Answer
-seen (setUp s settings) r left = record { reply = r .reply; id = noId; bytes = [] }
-seen (hear id dlc payload output) r left = record { reply = r .reply; id = noId; bytes = take (r .written) left }
-seen (tick output) r left = record { reply = r .reply; id = noId; bytes = take (r .written) left }
-seen (request s payload) r left = record { reply = r .reply; id = noId; bytes = [] }
-seen (nextFrame output) r left = record { reply = r .reply; id = r .id; bytes = take (r .len) left }
+seen (setUp s settings) r left = record { reply = r .reply; id = noId; bytes = []; report = silent }
+seen (hear id dlc payload output) r left = record { reply = r .reply; id = noId; bytes = take (r .written) left; report = ofFrame (r .told) }
+seen (tick output) r left =
+    record { reply = r .reply; id = noId; bytes = take (r .written) left; report = ofTick (r .dropped) (r .delivered) }
+seen (request s payload) r left = record { reply = r .reply; id = noId; bytes = []; report = silent }
+seen (nextFrame output) r left = record { reply = r .reply; id = r .id; bytes = take (r .len) left; report = silent }
 
 -- From one module to another by some calls, each made with the node and the tally that the call before left, and what was seen
 -- of each. Of what the calls did nothing is known but that they kept their promises.

@@ -11,7 +11,7 @@ use Rattle.module.specs.declared.tally.Tally.{Tally}
 
 -- the reply numbers that are counted, in the tally's order
 abbrev pub counted : List ℕ
-counted = 0 ∷ 1 ∷ 2 ∷ 3 ∷ 4 ∷ 5 ∷ 6 ∷ 7 ∷ 8 ∷ 9 ∷ 10 ∷ 11 ∷ 12 ∷ []
+counted = 0 ∷ 1 ∷ 2 ∷ 3 ∷ 4 ∷ 5 ∷ 6 ∷ 7 ∷ 8 ∷ 9 ∷ 10 ∷ 11 ∷ 12 ∷ 18 ∷ 19 ∷ 20 ∷ 21 ∷ []
 
 -- where a number first stands in a list; past its end where it does not
 unfoldable pub position : ℕ → List ℕ → ℕ

@@ -2,15 +2,16 @@
 use crate::tally::Tally;
 use crate::tally::count;
 use node::Answered;
-use node::Delivered;
 use node::Given;
+use node::Heard;
 use node::Node;
+use node::Ticked;
 use wire::ids::BusId;
 use wire::ids::Stream;
 use wire::settings::Settings;
 ghost use mathlib.Core.Path.{_≡_};
 ghost use Rattle.wire.specs.Delivered.{over};
-ghost use Rattle.node.specs.Nodes.{asAnswered, asDelivered, asGiven};
+ghost use Rattle.node.specs.Nodes.{asAnswered, asHeard, asTicked, asGiven};
 ghost use Rattle.node.specs.Clock.{rolled};
 ghost use Rattle.node.specs.SetUp.{setUp};
 ghost use Rattle.node.specs.Hear.{hear};
@@ -37,8 +38,8 @@ pub fn hear(
     payload: &[u8],
     out: &mut [u8],
     tally: &mut Tally,
-) -> Delivered
-    ensures { λ r. ⌜ (r ≡ asDelivered (hear id dlc (now (payload .entry)) (now (out .entry)) node))
+) -> Heard
+    ensures { λ r. ⌜ (r ≡ asHeard (hear id dlc (now (payload .entry)) (now (out .entry)) node))
         × (now (out .exit) ≡ over (hear id dlc (now (payload .entry)) (now (out .entry)) node .bytes) (now (out .entry)))
         × (now (tally .exit) ≡ tallied (now (tally .entry)) (hear id dlc (now (payload .entry)) (now (out .entry)) node .reply)) ⌝ }
 {
@@ -48,8 +49,8 @@ pub fn hear(
 }
 
 // Moves the counter by one; what is due is delivered, and what is late dropped.
-pub fn tick(node: Node, out: &mut [u8], tally: &mut Tally) -> Delivered
-    ensures { λ r. ⌜ (r ≡ asDelivered (tick rolled (now (out .entry)) node))
+pub fn tick(node: Node, out: &mut [u8], tally: &mut Tally) -> Ticked
+    ensures { λ r. ⌜ (r ≡ asTicked (tick rolled (now (out .entry)) node))
         × (now (out .exit) ≡ over (tick rolled (now (out .entry)) node .bytes) (now (out .entry)))
         × (now (tally .exit) ≡ tallied (now (tally .entry)) (tick rolled (now (out .entry)) node .reply)) ⌝ }
 {

@@ -10,14 +10,37 @@ pub struct Tally {
 
 impl Tally {
     // How many numbers are counted.
-    pub const SIZE: usize = 13;
+    pub const SIZE: usize = 17;
 
     // The numbers that are counted, in the tally's order.
-    pub const NUMBERS: [u32; Tally::SIZE] = [0, 1, 2, 3, 4, 5, 6, 7, 8, 9, 10, 11, 12];
+    pub const NUMBERS: [u32; Tally::SIZE] = [
+        0,
+        1,
+        2,
+        3,
+        4,
+        5,
+        6,
+        7,
+        8,
+        9,
+        10,
+        11,
+        12,
+        18,
+        19,
+        20,
+        21,
+    ];
 
     pub const ZERO: Tally = Tally {
         counts: [0; Tally::SIZE],
     };
+
+    // All numbers up to this one are counted, then so many are left out.
+    pub const FIRST_END: u32 = 12;
+
+    pub const LEFT_OUT: u32 = 5;
 
     // A count stays here once there.
     pub const MOST: u32 = 4294967295;
@@ -38,12 +61,15 @@ impl Tally {
     pub fn place_of(number: u32) -> usize
         ensures { λ r. ⌜ r ≡ position number counted ⌝ }
     {
-        let mut i: usize = 0;
-        while i < Tally::SIZE {
-            if Tally::NUMBERS[i] == number {
-                return i;
-            }
-            i += 1;
+        if number <= Tally::FIRST_END {
+            return number as usize;
+        }
+        if number <= Tally::FIRST_END + Tally::LEFT_OUT {
+            return Tally::SIZE;
+        }
+        let i = (number - Tally::LEFT_OUT) as usize;
+        if i < Tally::SIZE {
+            return i;
         }
         Tally::SIZE
     }

@@ -1,24 +1,14 @@
 -- The outcome of a call, by cases: the first of its tests that holds refused it, or none did and it was accepted.
 use mathlib.Core.Path.{_≡_, refl}
-use mathlib.Core.Bool.{Bool, true, false, cond, not, _&&_, and-eq-true-iff}
+use mathlib.Core.Bool.{Bool, true, false, cond}
 use mathlib.Core.List.{[], _∷_}
 use lib.Dec.{eqb}
-use borrow.Author.Tests.{not-true}
 use Rattle.wire.specs.declared.reply.Reply.{Reply}
 use Rattle.wire.specs.Replies.{numberOf}
+use Rattle.wire.specs.Refusals.{Refusals}
 use Rattle.node.specs.declared.Node.{Node}
-use Rattle.node.specs.Nodes.{Outcome, refused, Refusals, unlessRefused, replyOf}
-use Rattle.node.proofs.Choices.{contrary}
-
--- the first test that holds has this reply
-pub data Refuses : Refusals → Reply → Type 0 where
-  here : {r : Reply} {t : Bool} {rest : Refusals} → t ≡ true → Refuses ((r, t) ∷ rest) r
-  later : {q r : Reply} {t : Bool} {rest : Refusals} → t ≡ false → Refuses rest r → Refuses ((q, t) ∷ rest) r
-
--- no test holds
-abbrev pub Passes : Refusals → Type 0
-Passes [] = Unit {0}
-Passes ((r, t) ∷ rest) = (t ≡ false) × Passes rest
+use Rattle.node.specs.Nodes.{Outcome, refused, unlessRefused}
+use Rattle.wire.proofs.Refusing.{Refuses, here, later, Passes, refusing, refused-not-passed, refused-not-done}
 
 -- An outcome of a call that these tests may refuse: a refusal with its number, or what is done, with the facts that led there.
 pub data Case (n : Node) (tests : Refusals) (Facts : Type 0) (result : Outcome) : Outcome → Type 0 where
@@ -30,43 +20,6 @@ pub by-case : {n : Node} {tests : Refusals} {Facts : Type 0} {result o : Outcome
     → ((r : Reply) → Refuses tests r → P (refused n r)) → (Facts → P result) → Case n tests Facts result o → P o
 by-case P if-refused if-accepted (refusal {r} why) = if-refused r why
 by-case P if-refused if-accepted (accepted facts) = if-accepted facts
-
--- not both
-pub refused-not-passed : {tests : Refusals} {r : Reply} → Refuses tests r → Passes tests → ⊥
-refused-not-passed (here e) p = contrary e (p .0)
-refused-not-passed (later e rest) p = refused-not-passed rest (p .1)
-
--- every reply has another number than 0
-abbrev pub refusing : Refusals → Bool
-refusing [] = true
-refusing ((r, t) ∷ rest) = not (eqb (numberOf r) 0) && refusing rest
-
-refused-not-done : {tests : Refusals} {r : Reply} → refusing tests ≡ true → Refuses tests r → eqb (numberOf r) 0 ≡ false
-refused-not-done all (here {r} {t} {rest} e) = not-true _ (and-eq-true-iff (not (eqb (numberOf r) 0)) (refusing rest) .0 all .0)
-refused-not-done all (later {q} {r} {t} {rest} e why) =
-    refused-not-done (and-eq-true-iff (not (eqb (numberOf q) 0)) (refusing rest) .0 all .1) why
-
--- the reply of the tests says what they decide
-pub reply-refuses : (tests : Refusals) → eqb (numberOf (replyOf tests)) 0 ≡ false → Refuses tests (replyOf tests)
-reply-refuses [] e = contrary refl e
-reply-refuses ((r, t) ∷ rest) e = go t refl (reply-refuses rest) e
-  where
-    go : (b : Bool) → t ≡ b → (eqb (numberOf (replyOf rest)) 0 ≡ false → Refuses rest (replyOf rest))
-        → eqb (numberOf (cond b r (replyOf rest))) 0 ≡ false → Refuses ((r, t) ∷ rest) (cond b r (replyOf rest))
-    go true h otherwise e = here h
-    go false h otherwise e = later h (otherwise e)
-
-pub reply-passes : (tests : Refusals) → refusing tests ≡ true → eqb (numberOf (replyOf tests)) 0 ≡ true → Passes tests
-reply-passes [] all e = tt
-reply-passes ((r, t) ∷ rest) all e = go t refl (reply-passes rest (both .1)) e
-  where
-    both : (not (eqb (numberOf r) 0) ≡ true) × (refusing rest ≡ true)
-    both = and-eq-true-iff (not (eqb (numberOf r) 0)) (refusing rest) .0 all
-
-    go : (b : Bool) → t ≡ b → (eqb (numberOf (replyOf rest)) 0 ≡ true → Passes rest)
-        → eqb (numberOf (cond b r (replyOf rest))) 0 ≡ true → Passes ((r, t) ∷ rest)
-    go true h otherwise e = contrary e (not-true _ (both .0))
-    go false h otherwise e = (h, otherwise e)
 
 -- what the tests decide, either way
 pub refuses : (n : Node) (result : Outcome) {tests : Refusals} {r : Reply} → Refuses tests r → unlessRefused n tests result ≡ refused n r

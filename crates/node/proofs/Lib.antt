@@ -7,5 +7,6 @@ pub mod rollover
 pub mod listing
 pub mod slot_order
 pub mod Moments
+pub mod Reports
 pub mod EarlierErrors
 pub mod Unique

@@ -7,7 +7,6 @@ use lib.ListN.{replicate}
 use Rattle.wire.specs.Identifiers.{join, split}
 use Rattle.wire.specs.Classes.{carries}
 use Rattle.wire.specs.Delivered.{recordOf}
-use Rattle.wire.specs.Frames.{badFrame}
 use Rattle.wire.specs.Settings.{legal}
 use Rattle.node.specs.declared.Node.{Node}
 use Rattle.node.specs.Slots.{slotFor, empty, sameBytes, first, onFirst, some}
@@ -75,7 +74,7 @@ each-same f g same (r ∷ rows) = rw (same (r .trial), each-same f g same rows)
 
 computed : map (λ (r : Row). shortly (r .trial)) moments ≡ map (λ (r : Row). r .shown) moments
 unfolding moments setUp lessFree inPlace hear heardBy deliveredAtOnce tick late due holdOver lapsed dueSlots recordsFrom request requested
-    nextFrame join give givenOut payloadFor split carries recordOf badFrame legal sameBytes first onFirst some
+    nextFrame join give givenOut payloadFor split carries recordOf legal sameBytes first onFirst some
 computed = refl
 
 -- the definitions, with the counter rolling over, show what the table says

@@ -8,6 +8,7 @@ use Rattle.wire.specs.declared.reply.Reply.{Reply}
 use Rattle.node.specs.declared.slots.Slot.{Slot}
 use Rattle.node.specs.declared.Node.{Node}
 use Rattle.node.specs.Slots.{restamped, withMessage}
+use Rattle.node.specs.Told.{Report}
 use Rattle.node.specs.Nodes.{Outcome, fresh}
 use Rattle.node.specs.Clock.{Clock, period}
 use Rattle.node.specs.SetUp
@@ -44,9 +45,10 @@ pub record Answer : Type 0 where
   pub reply : Reply
   pub id : BusId
   pub bytes : List ℕ
+  pub report : Report
 
 abbrev pub answerOf : Outcome → Answer
-answerOf o = record { reply = o .reply; id = o .id; bytes = o .bytes }
+answerOf o = record { reply = o .reply; id = o .id; bytes = o .bytes; report = o .report }
 
 abbrev pub answersFrom : Clock → Node → List Call → List Answer
 answersFrom clock n [] = []
@@ -63,4 +65,4 @@ abbrev pub roll : Node → Node
 roll n = record { slots = map rollSlot (n .slots); counter = n .counter % period }
 
 abbrev pub rollOutcome : Outcome → Outcome
-rollOutcome o = record { node = roll (o .node); reply = o .reply; id = o .id; bytes = o .bytes }
+rollOutcome o = record { node = roll (o .node); reply = o .reply; id = o .id; bytes = o .bytes; report = o .report }

@@ -1,20 +1,22 @@
--- Hearing a frame: the replies ShortOutput, BadFrame, NotMine, Misfit, Clash, in this order.
+-- Hearing a frame: the replies ShortOutput, those of what is no frame, NotMine, Misfit, Clash, in this order.
 use Prim.Native.Nat.{ℕ}
 use mathlib.Core.Bool.{Bool, cond, not, _&&_}
-use mathlib.Core.List.{List, [], _∷_}
+use mathlib.Core.List.{List, [], _∷_, _++_}
 use lib.ListN.{length}
 use lib.Dec.{eqb, ltb}
 use Rattle.wire.specs.declared.ids.Stream.{Stream}
 use Rattle.wire.specs.declared.ids.BusId.{BusId}
-use Rattle.wire.specs.declared.reply.Reply.the-variants.{BadFrame, NotMine, Misfit, Clash, ShortOutput}
+use Rattle.wire.specs.declared.reply.Reply.the-variants.{NotMine, Misfit, Clash, ShortOutput}
 use Rattle.wire.specs.Identifiers.{streamOf, codeOf}
 use Rattle.wire.specs.Classes.{carries}
-use Rattle.wire.specs.Frames.{badFrame}
+use Rattle.wire.specs.Frames.{isBare, frameRefusals}
 use Rattle.wire.specs.Delivered.{recordOf}
+use Rattle.wire.specs.Refusals.{Refusals}
 use Rattle.node.specs.declared.slots.Slot.{Slot}
 use Rattle.node.specs.declared.Node.{Node}
 use Rattle.node.specs.Slots.{noMessage, holding, restamped, confirmed, same, abortPending, isReceiver, withParts, withMessage}
-use Rattle.node.specs.Nodes.{slotOf, onSlot, Outcome, Refusals, unlessRefused, done}
+use Rattle.node.specs.Nodes.{slotOf, onSlot, Outcome, unlessRefused, done, telling}
+use Rattle.node.specs.Told.{toldBy, ofFrame}
 
 -- a plain frame is delivered at once, so the longest record must fit
 abbrev pub hearRoom : ℕ
@@ -62,10 +64,11 @@ slotHearRefusals code payload x =
 abbrev pub hearRefusals : BusId → (dlc : ℕ) → (payload output : List ℕ) → Slot → Refusals
 hearRefusals id dlc payload output x =
     (ShortOutput, ltb (length output) hearRoom)
-    ∷ (BadFrame, badFrame id dlc (length payload))
-    ∷ slotHearRefusals (codeOf id) payload x
+    ∷ frameRefusals (isBare id) id dlc (length payload)
+    ++ slotHearRefusals (codeOf id) payload x
 
 unfoldable pub hear : BusId → (dlc : ℕ) → (payload output : List ℕ) → Node → Outcome
 hear id dlc payload output n =
     unlessRefused n (hearRefusals id dlc payload output (slotOf (streamOf id) n))
-    (done (onSlot (streamOf id) (heardBy (n .counter) (codeOf id) payload) n) (deliveredAtOnce id payload))
+    (telling (ofFrame (toldBy (codeOf id) (slotOf (streamOf id) n)))
+    (done (onSlot (streamOf id) (heardBy (n .counter) (codeOf id) payload) n) (deliveredAtOnce id payload)))

@@ -1,4 +1,5 @@
 pub mod Slots
+pub mod Told
 pub mod Nodes
 pub mod SetUp
 pub mod Hear
@@ -10,6 +11,7 @@ pub mod NextFrame
 pub mod Calls
 pub mod Reachable
 pub mod Moments
+pub mod WorkedReports
 pub mod Refused
 pub mod Listing
 pub mod SameAsListing

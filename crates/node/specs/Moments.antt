@@ -8,7 +8,7 @@ use lib.ListN.{replicate}
 use Rattle.wire.specs.declared.ids.Stream.{Stream}
 use Rattle.wire.specs.declared.settings.Settings.{Settings}
 use Rattle.wire.specs.declared.reply.Reply.{Reply}
-use Rattle.wire.specs.declared.reply.Reply.the-variants.{Done, BadSettings, BadFrame, Busy}
+use Rattle.wire.specs.declared.reply.Reply.the-variants.{Done, BadSettings, BadFrame, Busy, IdentifierTooBig}
 use Rattle.wire.specs.Settings.{ofTwoMessage}
 use Rattle.wire.specs.Identifiers.{split}
 use Rattle.node.specs.Nodes.{slotOf, Outcome}
@@ -124,10 +124,10 @@ moments =
     (call (sending 10) (request₅ ∷ next ∷ []) next ⇒ node Done 21 [] 10 true false) ∷
     (call (sending 10) (request₅ ∷ next ∷ next ∷ ticks 8) request₅ ⇒ node Busy none [] 18 true false) ∷
     (call (sending 10) (request₅ ∷ next ∷ next ∷ ticks 9) request₅ ⇒ node Done none [] 19 true false) ∷
-    -- 8: Identifier 536,870,911 splits into 134,217,727 and 3; 536,870,912 is BadFrame.
+    -- 8: Identifier 536,870,911 splits into 134,217,727 and 3; 536,870,912 is BadFrame, and hear answers IdentifierTooBig.
     (splits 536870911 ⇒ parts Done 134217727 3) ∷
     (splits 536870912 ⇒ parts BadFrame 0 0) ∷
-    (call (receiving 10) [] (Call.hear (record { 0 = 536870912 }) 0 [] (replicate hearRoom 0)) ⇒ node BadFrame none [] 10 false false) ∷
+    (call (receiving 10) [] (Call.hear (record { 0 = 536870912 }) 0 [] (replicate hearRoom 0)) ⇒ node IdentifierTooBig none [] 10 false false) ∷
     -- 9: DLC 8 with eight bytes is taken, and so is DLC 9 with eight bytes.
     (call (receiving 10) [] (eight-bytes 8) ⇒ node Done none [] 10 true false) ∷
     (call (receiving 10) [] (eight-bytes 9) ⇒ node Done none [] 10 true false) ∷

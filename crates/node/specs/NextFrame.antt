@@ -8,11 +8,13 @@ use lib.Dec.{eqb, leb, ltb}
 use Rattle.wire.specs.declared.reply.Reply.the-variants.{Done, ShortOutput, Nothing}
 use Rattle.wire.specs.Identifiers.{maxStream, join}
 use Rattle.wire.specs.Settings.{isPlain}
+use Rattle.wire.specs.Refusals.{Refusals}
 use Rattle.node.specs.declared.slots.Pending.{Pending}
 use Rattle.node.specs.declared.slots.Slot.{Slot}
 use Rattle.node.specs.declared.Node.{Node}
 use Rattle.node.specs.Slots.{payloadOf, payloadGiven, confirmationGiven, abortGiven, withParts, first, onFirst, some}
-use Rattle.node.specs.Nodes.{withSlots, Outcome, Refusals, unlessRefused}
+use Rattle.node.specs.Nodes.{withSlots, Outcome, unlessRefused}
+use Rattle.node.specs.Told.{silent}
 use Rattle.node.specs.Request.{hasPending}
 
 -- the longest payload must fit
@@ -53,6 +55,7 @@ give n =
       reply = Done;
       id = join (x .stream) (lowestCode x) .id;
       bytes = payloadFor (lowestCode x) x;
+      report = silent;
     }
 
 abbrev pub nextRefusals : (output : List ℕ) → Node → Refusals

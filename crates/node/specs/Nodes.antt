@@ -10,9 +10,11 @@ use Rattle.wire.specs.declared.reply.Reply.the-variants.{Done}
 use Rattle.node.specs.declared.slots.Slot.{Slot}
 use Rattle.node.specs.declared.Node.{Node}
 use Rattle.node.specs.declared.Answered.{Answered}
-use Rattle.node.specs.declared.Delivered.{Delivered}
+use Rattle.node.specs.declared.Heard.{Heard}
+use Rattle.node.specs.declared.Ticked.{Ticked}
 use Rattle.node.specs.declared.Given.{Given}
 use Rattle.node.specs.Slots.{empty, isOf, first, onFirst, some}
+use Rattle.node.specs.Told.{Report, silent}
 
 abbrev pub slotCount : ℕ
 slotCount = 32
@@ -33,20 +35,21 @@ withSlots slots n = record { slots = slots; counter = n .counter }
 abbrev pub onSlot : Stream → (Slot → Slot) → Node → Node
 onSlot s change n = withSlots (onFirst (isOf s) change (n .slots)) n
 
--- What a call leaves in the node, its reply, the identifier that next frame gives out, and the bytes that the call
--- writes to the front of the lent output; the rest of the output stays as it was.
+-- What a call leaves in the node, its reply, the identifier that next frame gives out, the bytes that the call
+-- writes to the front of the lent output, where the rest stays as it was, and what it tells.
 pub record Outcome : Type 0 where
   pub node : Node
   pub reply : Reply
   pub id : BusId
   pub bytes : List ℕ
+  pub report : Report
 
 abbrev pub noId : BusId
 noId = record { 0 = 0 }
 
--- a refusal changes nothing, writes nothing, and returns 0
+-- a refusal changes nothing, writes nothing, returns 0 and tells nothing
 abbrev pub refused : Node → Reply → Outcome
-refused n reply = record { node = n; reply = reply; id = noId; bytes = [] }
+refused n reply = record { node = n; reply = reply; id = noId; bytes = []; report = silent }
 
 -- what a call is refused for: each reply with its test, in their order
 abbrev pub Refusals : Type 0
@@ -63,14 +66,27 @@ replyOf [] = Done
 replyOf ((reply, test) ∷ rest) = cond test reply (replyOf rest)
 
 abbrev pub done : Node → (written : List ℕ) → Outcome
-done n written = record { node = n; reply = Done; id = noId; bytes = written }
+done n written = record { node = n; reply = Done; id = noId; bytes = written; report = silent }
+
+abbrev pub telling : Report → Outcome → Outcome
+telling report o = record { node = o .node; reply = o .reply; id = o .id; bytes = o .bytes; report = report }
 
 -- the outcome as each call answers it
 abbrev pub asAnswered : Outcome → Answered
 asAnswered o = record { node = o .node; reply = o .reply }
 
-abbrev pub asDelivered : Outcome → Delivered
-asDelivered o = record { node = o .node; reply = o .reply; written = length (o .bytes) }
+abbrev pub asHeard : Outcome → Heard
+asHeard o = record { node = o .node; reply = o .reply; written = length (o .bytes); told = o .report .frame }
+
+abbrev pub asTicked : Outcome → Ticked
+asTicked o =
+    record {
+      node = o .node;
+      reply = o .reply;
+      written = length (o .bytes);
+      dropped = o .report .dropped;
+      delivered = o .report .delivered;
+    }
 
 abbrev pub asGiven : Outcome → Given
 asGiven o = record { node = o .node; reply = o .reply; id = o .id; len = length (o .bytes) }

@@ -11,14 +11,16 @@ use Rattle.wire.specs.declared.settings.Settings.{Settings}
 use Rattle.wire.specs.declared.reply.Reply.the-variants.{Done, ShortOutput, Nothing}
 use Rattle.wire.specs.Identifiers.{maxStream, streamOf, codeOf}
 use Rattle.wire.specs.Settings.{isPlain}
+use Rattle.wire.specs.Refusals.{Refusals}
 use Rattle.node.specs.declared.slots.Slot.{Slot}
 use Rattle.node.specs.declared.Node.{Node}
 use Rattle.node.specs.Slots.{slotFor, isFree, onFirst}
-use Rattle.node.specs.Nodes.{withSlots, slotOf, onSlot, Outcome, Refusals, unlessRefused, done}
+use Rattle.node.specs.Nodes.{withSlots, slotOf, onSlot, Outcome, unlessRefused, done, telling}
+use Rattle.node.specs.Told.{silent}
 use Rattle.node.specs.Clock.{Clock}
 use Rattle.node.specs.SetUp.{setUpRefusals}
 use Rattle.node.specs.Hear
-use Rattle.node.specs.Tick.{due, ageOf, recordsFrom, ticked, tickRefusals}
+use Rattle.node.specs.Tick.{due, ageOf, lapses, recordsFrom, ticked, tickRefusals}
 use Rattle.node.specs.Request
 use Rattle.node.specs.NextFrame.{nextRoom, givenOut, payloadFor}
 use Rattle.node.specs.Calls.{Call}
@@ -52,7 +54,8 @@ dueByStream clock now (x ∷ xs) = cond (due (ageOf clock now x) x) (place x (du
 abbrev pub tickByStream : Clock → (output : List ℕ) → Node → Outcome
 tickByStream clock output n =
     unlessRefused n (tickRefusals output)
-    (done (ticked clock n) (recordsFrom (dueByStream clock (clock .next (n .counter)) (n .slots))))
+    (telling (lapses clock (clock .next (n .counter)) (n .slots))
+    (done (ticked clock n) (recordsFrom (dueByStream clock (clock .next (n .counter)) (n .slots)))))
 
 -- ── which frame is next ──
 -- the code of the frame with the payload
@@ -98,6 +101,7 @@ giveById id n =
       reply = Done;
       id = id;
       bytes = payloadFor (codeOf id) (slotOf (streamOf id) n);
+      report = silent;
     }
 
 abbrev pub nextByIdRefusals : (output : List ℕ) → (pending : List ℕ) → Refusals

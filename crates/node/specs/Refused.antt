@@ -10,13 +10,16 @@ use Rattle.wire.specs.declared.ids.Stream.{Stream}
 use Rattle.wire.specs.declared.ids.BusId.{BusId}
 use Rattle.wire.specs.declared.settings.Settings.{Settings}
 use Rattle.wire.specs.declared.reply.Reply.{Reply}
-use Rattle.wire.specs.declared.reply.Reply.the-variants.{Done, BadSettings, TableFull, Taken, BadFrame, NotMine, Misfit}
+use Rattle.wire.specs.declared.reply.Reply.the-variants.{Done, BadSettings, TableFull, Taken, NotMine, Misfit}
 use Rattle.wire.specs.declared.reply.Reply.the-variants.{Clash, Busy, NotSender, BadLength, ShortOutput, Nothing}
+use Rattle.wire.specs.declared.reply.Reply.the-variants.{IdentifierTooBig, DlcTooBig, PayloadLength, UnwantedPayload}
 use Rattle.wire.specs.Delivered.{over}
 use Rattle.wire.specs.Settings.{ofPlain}
+use Rattle.wire.specs.Refusals.{Refusals}
 use Rattle.node.specs.declared.slots.Slot.{Slot}
 use Rattle.node.specs.declared.Node.{Node}
-use Rattle.node.specs.Nodes.{slotCount, Outcome, Refusals}
+use Rattle.node.specs.Told.{silent}
+use Rattle.node.specs.Nodes.{slotCount, Outcome}
 use Rattle.node.specs.Clock.{Clock}
 use Rattle.node.specs.Calls.{Call, outcome, after}
 use Rattle.node.specs.SetUp.{setUpRefusals}
@@ -26,12 +29,13 @@ use Rattle.node.specs.Request.{requestRefusals}
 use Rattle.node.specs.NextFrame.{nextRefusals}
 use Rattle.node.specs.Moments.{five, receive, send, settings, data₅, request₅, next, one-tick}
 
--- the node and every lent output are as they were; no byte is written, and the payload's length and the identifier are 0
+-- the node and every lent output are as they were; no byte is written, the payload's length and the identifier are 0, and nothing is told
 pub record Unchanged (n : Node) (o : Outcome) : Type 0 where
   pub node : o .node ≡ n
   pub output : (lent : List ℕ) → over (o .bytes) lent ≡ lent
   pub written : length (o .bytes) ≡ 0
   pub id : o .id .0 ≡ 0
+  pub report : o .report ≡ silent
 
 -- with any reply but Done, for every clock, call and node
 abbrev pub RefusedUnchanged : Type 0
@@ -82,7 +86,10 @@ setUpRows =
 abbrev pub hearRows : List Row
 hearRows =
     row (receiver ∷ []) (hear 20 2 (10 ∷ 11 ∷ []) (replicate 15 0)) ShortOutput ∷
-    row (receiver ∷ []) (hear 20 3 (10 ∷ 11 ∷ []) (replicate hearRoom 0)) BadFrame ∷
+    row (receiver ∷ []) (hear 536870912 2 (10 ∷ 11 ∷ []) (replicate hearRoom 0)) IdentifierTooBig ∷
+    row (receiver ∷ []) (hear 20 16 (replicate 8 0) (replicate hearRoom 0)) DlcTooBig ∷
+    row (receiver ∷ []) (hear 20 3 (10 ∷ 11 ∷ []) (replicate hearRoom 0)) PayloadLength ∷
+    row (receiver ∷ []) (hear 21 2 (10 ∷ 11 ∷ []) (replicate hearRoom 0)) UnwantedPayload ∷
     row [] data₅ NotMine ∷
     row (receiver ∷ []) (hear 23 2 (10 ∷ 11 ∷ []) (replicate hearRoom 0)) Misfit ∷
     row (receiver ∷ data₅ ∷ []) (hear 20 2 (10 ∷ 12 ∷ []) (replicate hearRoom 0)) Clash ∷

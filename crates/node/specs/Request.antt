@@ -8,11 +8,12 @@ use Rattle.wire.specs.declared.ids.Stream.{Stream}
 use Rattle.wire.specs.declared.reply.Reply.the-variants.{BadLength, NotSender, Busy}
 use Rattle.wire.specs.Settings.{isPlain, isTwoMessage}
 use Rattle.wire.specs.Frames.{maxPayload}
+use Rattle.wire.specs.Refusals.{Refusals}
 use Rattle.node.specs.declared.slots.Pending.{Pending}
 use Rattle.node.specs.declared.slots.Slot.{Slot}
 use Rattle.node.specs.declared.Node.{Node}
 use Rattle.node.specs.Slots.{holding, keeping, toSend, isSender, withParts}
-use Rattle.node.specs.Nodes.{slotOf, onSlot, Outcome, Refusals, unlessRefused, done}
+use Rattle.node.specs.Nodes.{slotOf, onSlot, Outcome, unlessRefused, done}
 
 abbrev pub hasPending : Pending → Bool
 hasPending p = p .payload || p .confirmation || p .abort

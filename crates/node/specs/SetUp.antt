@@ -6,10 +6,11 @@ use Rattle.wire.specs.declared.ids.Stream.{Stream}
 use Rattle.wire.specs.declared.settings.Settings.{Settings}
 use Rattle.wire.specs.declared.reply.Reply.the-variants.{BadSettings, TableFull, Taken}
 use Rattle.wire.specs.Settings.{legal}
+use Rattle.wire.specs.Refusals.{Refusals}
 use Rattle.node.specs.declared.slots.Slot.{Slot}
 use Rattle.node.specs.declared.Node.{Node}
 use Rattle.node.specs.Slots.{slotFor, isFree, some}
-use Rattle.node.specs.Nodes.{hasSlot, withSlots, Outcome, Refusals, unlessRefused, done}
+use Rattle.node.specs.Nodes.{hasSlot, withSlots, Outcome, unlessRefused, done}
 
 -- what refuses a stream and its settings
 abbrev pub setUpRefusals : Stream → Settings → Node → Refusals

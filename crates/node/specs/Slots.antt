@@ -1,5 +1,5 @@
 -- A slot: its parts, what changes them, and finding one in the table. A new field of them is added here and in `src/slots.rt`.
-use Prim.Native.Nat.{ℕ}
+use Prim.Native.Nat.{ℕ, _+_}
 use mathlib.Core.Bool.{Bool, true, false, cond, not, _&&_, _||_}
 use mathlib.Core.List.{List, [], _∷_, _++_}
 use lib.ListN.{length, take, drop, replicate}
@@ -125,3 +125,8 @@ onFirst test change (x ∷ xs) = cond (test x) (change x ∷ xs) (x ∷ onFirst 
 unfoldable pub some : (Slot → Bool) → List Slot → Bool
 some test [] = false
 some test (x ∷ xs) = test x || some test xs
+
+-- of how many it is true
+unfoldable pub many : (Slot → Bool) → List Slot → ℕ
+many test [] = 0
+many test (x ∷ xs) = cond (test x) 1 0 + many test xs

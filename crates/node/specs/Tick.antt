@@ -8,10 +8,12 @@ use Rattle.wire.specs.declared.reply.Reply.the-variants.{ShortOutput}
 use Rattle.wire.specs.declared.settings.Settings.{Settings}
 use Rattle.wire.specs.Settings.{isImd, isTwoMessage}
 use Rattle.wire.specs.Delivered.{recordOf}
+use Rattle.wire.specs.Refusals.{Refusals}
 use Rattle.node.specs.declared.slots.Slot.{Slot}
 use Rattle.node.specs.declared.Node.{Node}
-use Rattle.node.specs.Slots.{noMessage, released, payloadOf, abortPending, isReceiver, isSender, withParts, withMessage}
-use Rattle.node.specs.Nodes.{Outcome, Refusals, unlessRefused, done}
+use Rattle.node.specs.Slots.{many, noMessage, released, payloadOf, abortPending, isReceiver, isSender, withParts, withMessage}
+use Rattle.node.specs.Nodes.{Outcome, unlessRefused, done, telling}
+use Rattle.node.specs.Told.{Report, ofTick}
 use Rattle.node.specs.Clock.{Clock}
 
 -- every slot may deliver, each a record of at most 16 bytes
@@ -59,6 +61,10 @@ module _ (clock : Clock) (now : ℕ) where
   abbrev pub tickSlot : Slot → Slot
   tickSlot x = lapsed (ageOf x) x
 
+  -- how many messages are dropped now, and how many delivered; the end of a sender's hold is neither
+  abbrev pub lapses : List Slot → Report
+  lapses xs = ofTick (many (λ x. late (ageOf x) x) xs) (many (λ x. due (ageOf x) x) xs)
+
   -- the slots that are due now, in the order of the table: by ascending stream in every node that calls make
   unfoldable pub dueSlots : List Slot → List Slot
   dueSlots [] = []
@@ -83,4 +89,5 @@ tickRefusals output = (ShortOutput, ltb (length output) tickRoom) ∷ []
 unfoldable pub tick : Clock → (output : List ℕ) → Node → Outcome
 tick clock output n =
     unlessRefused n (tickRefusals output)
-    (done (ticked clock n) (recordsFrom (dueSlots clock (clock .next (n .counter)) (n .slots))))
+    (telling (lapses clock (clock .next (n .counter)) (n .slots))
+    (done (ticked clock n) (recordsFrom (dueSlots clock (clock .next (n .counter)) (n .slots)))))

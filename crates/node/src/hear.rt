@@ -1,11 +1,12 @@
 // Hearing a frame.
-use crate::Delivered;
+use crate::Heard;
 use crate::Node;
 use crate::slots::Message;
 use crate::slots::Slot;
+use crate::told::Told;
 use wire::class::carries;
 use wire::delivered::write_record;
-use wire::frame::bad_frame;
+use wire::frame::frame_reply;
 use wire::ids::BusId;
 use wire::ids::Stream;
 use wire::reply::Reply;
@@ -14,7 +15,8 @@ ghost use mathlib.Core.List.{List};
 ghost use lib.ListN.{length, take};
 ghost use Rattle.wire.specs.Frames.{maxPayload};
 ghost use Rattle.wire.specs.Delivered.{over, fitting};
-ghost use Rattle.node.specs.Nodes.{replyOf, asDelivered};
+ghost use Rattle.wire.specs.Refusals.{replyOf};
+ghost use Rattle.node.specs.Nodes.{asHeard};
 ghost use Rattle.node.specs.Hear.{clashes, dataHeard, confirmationHeard, abortHeard, heardBy, plainRecord, slotHearRefusals, hear};
 ghost use Rattle.node.specs.Clock.{rolled, unbounded};
 ghost use Rattle.node.specs.Calls.{Call, after, rollOutcome};
@@ -117,25 +119,28 @@ impl Node {
     pub const HEAR_ROOM: usize = 16;
 
     // Takes in a frame that the controller received.
-    pub fn hear(mut self, id: BusId, dlc: u8, payload: &[u8], out: &mut [u8]) -> Delivered
-        ensures exact { λ r. ⌜ (r ≡ asDelivered (hear id dlc (now (payload .entry)) (now (out .entry)) self))
+    pub fn hear(mut self, id: BusId, dlc: u8, payload: &[u8], out: &mut [u8]) -> Heard
+        ensures exact { λ r. ⌜ (r ≡ asHeard (hear id dlc (now (payload .entry)) (now (out .entry)) self))
             × (now (out .exit) ≡ over (hear id dlc (now (payload .entry)) (now (out .entry)) self .bytes) (now (out .entry))) ⌝ }
         ensures unbounded { λ r. ⌜ ((h : List Call) → self ≡ after rolled h
-            → (r ≡ asDelivered (rollOutcome (hear id dlc (now (payload .entry)) (now (out .entry)) (after unbounded h))))
+            → (r ≡ asHeard (rollOutcome (hear id dlc (now (payload .entry)) (now (out .entry)) (after unbounded h))))
             × (now (out .exit) ≡ over (hear id dlc (now (payload .entry)) (now (out .entry)) (after unbounded h) .bytes) (now (out .entry)))) ⌝ }
     {
         if out.len() < Node::HEAR_ROOM {
-            return Delivered {
+            return Heard {
                 node: self,
                 reply: Reply::ShortOutput,
                 written: 0,
+                told: Told::Nothing,
             };
         }
-        if bad_frame(id, dlc, payload) {
-            return Delivered {
+        let fault = frame_reply(id.is_bare(), id, dlc, payload);
+        if fault.number() != 0 {
+            return Heard {
                 node: self,
-                reply: Reply::BadFrame,
+                reply: fault,
                 written: 0,
+                told: Told::Nothing,
             };
         }
         let parts = id.split();
@@ -151,28 +156,32 @@ impl Node {
             i += 1;
         }
         if i >= Node::SLOTS {
-            return Delivered {
+            return Heard {
                 node: self,
                 reply: Reply::NotMine,
                 written: 0,
+                told: Told::Nothing,
             };
         }
         let slot = self.slots[i];
         let reply = slot.hear_reply(code, payload);
         if reply.number() != 0 {
-            return Delivered {
+            return Heard {
                 node: self,
                 reply: reply,
                 written: 0,
+                told: Told::Nothing,
             };
         }
+        let told = slot.told(code);
         let heard = slot.hear(self.counter, code, payload);
         self.slots[i] = heard;
         let written = deliver_plain(out, stream, code, payload);
-        Delivered {
+        Heard {
             node: self,
             reply: Reply::Done,
             written: written,
+            told: told,
         }
     }
 }

@@ -2,6 +2,7 @@
 // and gives the whole node back, with a numbered reply. A call looks for slots in a loop of its own,
 // since a function that did so would be handed a copy of the node.
 use crate::slots::Slot;
+use crate::told::Told;
 use wire::ids::BusId;
 use wire::reply::Reply;
 ghost use mathlib.Core.Path.{_≡_};
@@ -13,6 +14,7 @@ pub mod request;
 pub mod set_up;
 pub mod slots;
 pub mod tick;
+pub mod told;
 
 // Fields in their order, as C has them.
 #[repr(C)]
@@ -44,11 +46,21 @@ pub struct Answered {
     pub reply: Reply,
 }
 
-// What hear and tick answer: how many bytes of the output were written.
-pub struct Delivered {
+// What hear answers: how many bytes of the output were written, and what the frame did.
+pub struct Heard {
     pub node: Node,
     pub reply: Reply,
     pub written: usize,
+    pub told: Told,
+}
+
+// What tick answers: how many bytes of the output were written, and how many messages were dropped and delivered.
+pub struct Ticked {
+    pub node: Node,
+    pub reply: Reply,
+    pub written: usize,
+    pub dropped: u32,
+    pub delivered: u32,
 }
 
 // What next frame answers: the frame's identifier, and the length of its payload.

@@ -3,6 +3,7 @@ use crate::Given;
 use crate::Node;
 use crate::slots::Message;
 use crate::slots::Slot;
+use wire::delivered::copy_eight;
 use wire::ids::BusId;
 use wire::ids::Stream;
 use wire::reply::Reply;
@@ -88,6 +89,10 @@ fn put_payload(out: &mut [u8], m: Message) -> usize
         return 0;
     }
     let bytes = m.bytes;
+    if n == Message::MAX_LEN {
+        copy_eight(out, 0, &bytes[0..n]);
+        return n;
+    }
     let mut i: usize = 0;
     while i < n {
         out[i] = bytes[i];

@@ -1,6 +1,6 @@
 // A tick: the counter moves, what is due is delivered in the order of the slots, and what is late dropped.
-use crate::Delivered;
 use crate::Node;
+use crate::Ticked;
 use crate::slots::Message;
 use crate::slots::Slot;
 use wire::delivered::write_record;
@@ -11,7 +11,7 @@ ghost use mathlib.Core.List.{List};
 ghost use lib.ListN.{length};
 ghost use Rattle.wire.specs.Frames.{maxPayload};
 ghost use Rattle.wire.specs.Delivered.{over};
-ghost use Rattle.node.specs.Nodes.{asDelivered};
+ghost use Rattle.node.specs.Nodes.{asTicked};
 ghost use Rattle.node.specs.Tick.{late, due, holdOver, dropped, delivered, holdEnded, tick};
 ghost use Rattle.node.specs.Stirring.{mayStir};
 ghost use Rattle.node.specs.Clock.{rolled, unbounded};
@@ -146,24 +146,28 @@ impl Node {
     pub const TICK_ROOM: usize = Node::SLOTS * Node::HEAR_ROOM;
 
     // Moves the counter by one; what is due is delivered, and what is late dropped.
-    pub fn tick(mut self, out: &mut [u8]) -> Delivered
-        ensures exact { λ r. ⌜ (r ≡ asDelivered (tick rolled (now (out .entry)) self))
+    pub fn tick(mut self, out: &mut [u8]) -> Ticked
+        ensures exact { λ r. ⌜ (r ≡ asTicked (tick rolled (now (out .entry)) self))
             × (now (out .exit) ≡ over (tick rolled (now (out .entry)) self .bytes) (now (out .entry))) ⌝ }
         ensures unbounded { λ r. ⌜ ((h : List Call) → self ≡ after rolled h
-            → (r ≡ asDelivered (rollOutcome (tick unbounded (now (out .entry)) (after unbounded h))))
+            → (r ≡ asTicked (rollOutcome (tick unbounded (now (out .entry)) (after unbounded h))))
             × (now (out .exit) ≡ over (tick unbounded (now (out .entry)) (after unbounded h) .bytes) (now (out .entry)))) ⌝ }
     {
         if out.len() < Node::TICK_ROOM {
-            return Delivered {
+            return Ticked {
                 node: self,
                 reply: Reply::ShortOutput,
                 written: 0,
+                dropped: 0,
+                delivered: 0,
             };
         }
         let now = next(self.counter);
         self.counter = now;
         // One pass: the slots that are passed have lapsed, and the records of those that were due stand before `at`.
         let mut at: usize = 0;
+        let mut dropped: u32 = 0;
+        let mut delivered: u32 = 0;
         let mut passed: usize = 0;
         while passed < Node::SLOTS {
             let i = passed;
@@ -179,21 +183,25 @@ impl Node {
                     let bytes = message.all_bytes();
                     let n = message.payload_length();
                     at += write_record(&mut out[at..], old.stream, &bytes[0..n]);
+                    delivered += 1;
                 } else {
                     // And again, so that what is delivered and what is not share no copy of a slot.
                     let other = self.slots[i];
                     if other.late(a) {
                         self.slots[i] = other.dropped();
+                        dropped += 1;
                     } else if other.hold_over(a) {
                         self.slots[i] = other.hold_ended();
                     }
                 }
             }
         }
-        Delivered {
+        Ticked {
             node: self,
             reply: Reply::Done,
             written: at,
+            dropped: dropped,
+            delivered: delivered,
         }
     }
 }

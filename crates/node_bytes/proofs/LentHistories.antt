@@ -16,9 +16,11 @@ use Rattle.wire.specs.Delivered.{over}
 use Rattle.wire.proofs.Replies.{numbers-distinct}
 use Rattle.node.specs.declared.Node.{Node}
 use Rattle.node.specs.Slots.{empty}
+use Rattle.node.specs.Told.{Report, silent, ofFrame, ofTick}
 use Rattle.node.specs.Nodes.{fresh, Outcome, refused, noId}
 use Rattle.node.specs.Clock.{unbounded, rolled}
 use Rattle.node.specs.Calls.{Call, setUp, hear, tick, request, nextFrame, outcome, afterFrom, Answer, answerOf, answersFrom, roll, rollOutcome}
+use Rattle.node.specs.NextFrame.{give}
 use Rattle.node.specs.Reachable.{Kept}
 use Rattle.node.proofs.Choices.{contrary}
 use Rattle.node.proofs.Cases.{by-case}
@@ -26,6 +28,7 @@ use Rattle.node.proofs.set_up.Cases.{set-up-cases}
 use Rattle.node.proofs.hear.Cases.{hear-cases}
 use Rattle.node.proofs.tick.Cases.{tick-cases}
 use Rattle.node.proofs.request.Cases.{request-cases}
+use Rattle.node.proofs.next_frame.Cases.{next-cases}
 use Rattle.node.proofs.demand1.RefusedUnchanged.{refused-unchanged}
 use Rattle.node.proofs.kept.EveryCall.{kept-fresh, kept-by}
 use Rattle.node.proofs.rollover.SameAnswers.{rolls, rolled-node}
@@ -34,7 +37,7 @@ use Rattle.node_bytes.specs.Decoding.{decode}
 use Rattle.node_bytes.specs.Encoding.{encode}
 use Rattle.node_bytes.specs.Lent.{isNode, freshIn}
 use Rattle.node_bytes.specs.Widths.{NodeFits}
-use Rattle.node_bytes.specs.LentCalls.{lentOutcome, asWritten, asGivenOut, Leaves}
+use Rattle.node_bytes.specs.LentCalls.{lentOutcome, asLentHeard, asLentTicked, asGivenOut, Leaves}
 use Rattle.node_bytes.specs.LentHistories.{Returned, Answers, seen, Run, start, next, EveryHistory, noNode, EveryHistoryOnNoNode, SomeRun}
 use Rattle.node_bytes.proofs.NodeRoundTrip.{length-encoded, round-trip}
 use Rattle.node_bytes.proofs.Fitting.{rolled-fits}
@@ -46,43 +49,45 @@ use Rattle.node_bytes.proofs.Calling.{no-node, not-a-node, as-node, cal
 front : (bytes output : List ℕ) → take (length bytes) (over bytes output) ≡ bytes
 front bytes output = take-append-seam bytes (drop (length bytes) output)
 
--- a call that gives out no frame has no identifier, and one that is lent no output writes nothing
+-- what is not part of a call's answer: a call that gives out no frame has no identifier, one that is lent no output writes nothing, and what
+-- is told of frames is told by hear alone, and of ticks by tick
 abbrev Sparing : Call → Outcome → Type 0
-Sparing (setUp s settings) o = (o .id ≡ noId) × (o .bytes ≡ [])
-Sparing (hear id dlc payload output) o = o .id ≡ noId
-Sparing (tick output) o = o .id ≡ noId
-Sparing (request s payload) o = (o .id ≡ noId) × (o .bytes ≡ [])
-Sparing (nextFrame output) o = Unit {0}
+Sparing (setUp s settings) o = (o .id ≡ noId) × ((o .bytes ≡ []) × (silent ≡ o .report))
+Sparing (hear id dlc payload output) o = (o .id ≡ noId) × (ofFrame (o .report .frame) ≡ o .report)
+Sparing (tick output) o = (o .id ≡ noId) × (ofTick (o .report .dropped) (o .report .delivered) ≡ o .report)
+Sparing (request s payload) o = (o .id ≡ noId) × ((o .bytes ≡ []) × (silent ≡ o .report))
+Sparing (nextFrame output) o = silent ≡ o .report
 
 refused-sparing : (c : Call) (n : Node) (r : Reply) → Sparing c (refused n r)
-refused-sparing (setUp s settings) n r = (refl, refl)
-refused-sparing (hear id dlc payload output) n r = refl
-refused-sparing (tick output) n r = refl
-refused-sparing (request s payload) n r = (refl, refl)
-refused-sparing (nextFrame output) n r = tt
+refused-sparing (setUp s settings) n r = (refl, (refl, refl))
+refused-sparing (hear id dlc payload output) n r = (refl, refl)
+refused-sparing (tick output) n r = (refl, refl)
+refused-sparing (request s payload) n r = (refl, (refl, refl))
+refused-sparing (nextFrame output) n r = refl
 
 sparing : (c : Call) (n : Node) → Sparing c (outcome rolled c n)
+unfolding give
 sparing (setUp s settings) n =
-    by-case (Sparing (setUp s settings)) (λ r why. (refl, refl)) (λ h. (refl, refl)) (set-up-cases s settings n .case)
+    by-case (Sparing (setUp s settings)) (λ r why. (refl, (refl, refl))) (λ h. (refl, (refl, refl))) (set-up-cases s settings n .case)
 sparing (hear id dlc payload output) n =
-    by-case (Sparing (hear id dlc payload output)) (λ r why. refl) (λ h. refl) (hear-cases id dlc payload output n .case)
-sparing (tick output) n = by-case (Sparing (tick output)) (λ r why. refl) (λ h. refl) (tick-cases output rolled n .case)
+    by-case (Sparing (hear id dlc payload output)) (λ r why. (refl, refl)) (λ h. (refl, refl)) (hear-cases id dlc payload output n .case)
+sparing (tick output) n = by-case (Sparing (tick output)) (λ r why. (refl, refl)) (λ h. (refl, refl)) (tick-cases output rolled n .case)
 sparing (request s payload) n =
-    by-case (Sparing (request s payload)) (λ r why. (refl, refl)) (λ h. (refl, refl)) (request-cases payload s n .case)
-sparing (nextFrame output) n = tt
+    by-case (Sparing (request s payload)) (λ r why. (refl, (refl, refl))) (λ h. (refl, (refl, refl))) (request-cases payload s n .case)
+sparing (nextFrame output) n = by-case (Sparing (nextFrame output)) (λ r why. refl) (λ h. refl) (next-cases output n .case)
 
 -- an answer, by its parts
-answer-is : (o : Outcome) {id : BusId} {bytes : List ℕ} → o .id ≡ id → bytes ≡ o .bytes
-    → _≡_ {A = Answer} (record { reply = o .reply; id = id; bytes = bytes }) (answerOf o)
-answer-is o e f = rw (← e, f)
+answer-is : (o : Outcome) {id : BusId} {bytes : List ℕ} {report : Report} → o .id ≡ id → bytes ≡ o .bytes → report ≡ o .report
+    → _≡_ {A = Answer} (record { reply = o .reply; id = id; bytes = bytes; report = report }) (answerOf o)
+answer-is o e f g = rw (← e, f, g)
 
 -- what is seen of a call that answered so is the outcome's answer
 seen-so : (c : Call) (o : Outcome) (r : Returned c) (left : List ℕ) → Sparing c o → Answers c o r left → seen c r left ≡ answerOf o
-seen-so (setUp s settings) o r left few a = rw a (answer-is o (few .0) (sym (few .1)))
-seen-so (hear id dlc payload output) o r left few a = rw (a .0, a .1) (answer-is o few (front (o .bytes) output))
-seen-so (tick output) o r left few a = rw (a .0, a .1) (answer-is o few (front (o .bytes) output))
-seen-so (request s payload) o r left few a = rw a (answer-is o (few .0) (sym (few .1)))
-seen-so (nextFrame output) o r left few a = rw (a .0, a .1) (answer-is o refl (front (o .bytes) output))
+seen-so (setUp s settings) o r left few a = rw a (answer-is o (few .0) (sym (few .1 .0)) (few .1 .1))
+seen-so (hear id dlc payload output) o r left few a = rw (a .0, a .1) (answer-is o (few .0) (front (o .bytes) output) (few .1))
+seen-so (tick output) o r left few a = rw (a .0, a .1) (answer-is o (few .0) (front (o .bytes) output) (few .1))
+seen-so (request s payload) o r left few a = rw a (answer-is o (few .0) (sym (few .1 .0)) (few .1 .1))
+seen-so (nextFrame output) o r left few a = rw (a .0, a .1) (answer-is o refl (front (o .bytes) output) few)
 
 -- ── a node ──
 module _ (u : Node) (k : Kept u) (before : List ℕ) (whole : length before ≡ nodeSize) (e : decode before ≡ roll u) (c : Call) where
@@ -154,8 +159,8 @@ every-history-on-no-node buffer e calls xs end run =
 -- ── there are such runs ──
 returned : (c : Call) → Outcome → Returned c
 returned (setUp s settings) o = o .reply
-returned (hear id dlc payload output) o = asWritten o
-returned (tick output) o = asWritten o
+returned (hear id dlc payload output) o = asLentHeard o
+returned (tick output) o = asLentTicked o
 returned (request s payload) o = o .reply
 returned (nextFrame output) o = asGivenOut o
 

@@ -13,6 +13,7 @@ pub mod Fitting
 pub mod Lent
 pub mod Calling
 pub mod CallingNext
+pub mod Lapses
 pub mod CallingTick
 pub mod LentHistories
 pub mod LentPromises

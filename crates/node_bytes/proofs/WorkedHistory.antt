@@ -6,7 +6,7 @@ use lib.ListN.{length, replicate}
 use Rattle.wire.specs.declared.reply.Reply.the-variants.{Done, BadLength}
 use Rattle.wire.specs.Settings.{legal}
 use Rattle.wire.specs.Identifiers.{join}
-use Rattle.node.specs.Slots.{first, onFirst, some}
+use Rattle.node.specs.Slots.{first, onFirst, some, many}
 use Rattle.node.specs.Nodes.{noId}
 use Rattle.node.specs.SetUp.{lessFree, inPlace, setUp}
 use Rattle.node.specs.Tick.{tickRoom, late, due, holdOver, lapsed, dueSlots, recordsFrom, tick}
@@ -38,7 +38,7 @@ short-left c = record { length-stays = refl; node = refl; refused-unchanged = λ
 
 pub history-as-worked : WorkedHistory
 unfolding slotFrom slotsAt decode encodeSlot encode freshIn legal join first onFirst some lessFree inPlace setUp requested request
-    givenOut payloadFor give nextFrame late due holdOver lapsed dueSlots recordsFrom tick
+    givenOut payloadFor give nextFrame late due holdOver lapsed many dueSlots recordsFrom tick
 history-as-worked =
     record {
       run =
@@ -46,11 +46,11 @@ history-as-worked =
           (next request₅ Done [] afterRequest (refl, leaves-done refl refl refl)
           (next moments.next (record { reply = Done; id = record { 0 = 20 }; len = 2 }) (0x0a ∷ 0x0b ∷ replicate 6 0) afterFrame
           ((refl, refl), leaves-done refl refl refl)
-          (next one-tick (record { reply = Done; written = 0 }) (replicate tickRoom 0) afterTick ((refl, refl), leaves-done refl refl refl)
+          (next one-tick (record { reply = Done; written = 0; dropped = 0; delivered = 0 }) (replicate tickRoom 0) afterTick ((refl, refl), leaves-done refl refl refl)
           start)));
       short =
           next ready BadLength [] short (refl, short-left ready)
           (next request₅ BadLength [] short (refl, short-left request₅)
           (next moments.next (record { reply = BadLength; id = noId; len = 0 }) (replicate nextRoom 0) short ((refl, refl), short-left moments.next)
-          (next one-tick (record { reply = BadLength; written = 0 }) (replicate tickRoom 0) short ((refl, refl), short-left one-tick) start)));
+          (next one-tick (record { reply = BadLength; written = 0; dropped = 0; delivered = 0 }) (replicate tickRoom 0) short ((refl, refl), short-left one-tick) start)));
     }

@@ -10,7 +10,8 @@ use Rattle.wire.specs.declared.reply.Reply.the-variants.{Done, BadLength}
 use Rattle.node.specs.Nodes.{Outcome, refused}
 use Rattle.node.specs.Clock.{rolled}
 use Rattle.node.specs.Calls.{Call, outcome}
-use Rattle.node_bytes.specs.declared.Written.{Written}
+use Rattle.node_bytes.specs.declared.hear.LentHeard.{LentHeard}
+use Rattle.node_bytes.specs.declared.tick.LentTicked.{LentTicked}
 use Rattle.node_bytes.specs.declared.next_frame.GivenOut.{GivenOut}
 use Rattle.node_bytes.specs.Decoding.{decode}
 use Rattle.node_bytes.specs.Lent.{isNode}
@@ -19,9 +20,12 @@ use Rattle.node_bytes.specs.Lent.{isNode}
 abbrev pub lentOutcome : Call → (bytes : List ℕ) → Outcome
 lentOutcome c bytes = cond (isNode bytes) (outcome rolled c (decode bytes)) (refused (decode bytes) BadLength)
 
--- as a call answers it that writes to a lent output
-abbrev pub asWritten : Outcome → Written
-asWritten o = record { reply = o .reply; written = length (o .bytes) }
+-- as hear and tick answer it
+abbrev pub asLentHeard : Outcome → LentHeard
+asLentHeard o = record { reply = o .reply; written = length (o .bytes); told = o .report .frame }
+
+abbrev pub asLentTicked : Outcome → LentTicked
+asLentTicked o = record { reply = o .reply; written = length (o .bytes); dropped = o .report .dropped; delivered = o .report .delivered }
 
 -- as the next frame answers it
 abbrev pub asGivenOut : Outcome → GivenOut

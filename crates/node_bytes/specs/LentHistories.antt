@@ -8,29 +8,31 @@ use lib.ListN.{length, take}
 use Rattle.wire.specs.declared.reply.Reply.{Reply}
 use Rattle.wire.specs.declared.reply.Reply.the-variants.{BadLength}
 use Rattle.wire.specs.Delivered.{over}
+use Rattle.node.specs.Told.{silent, ofFrame, ofTick}
 use Rattle.node.specs.Nodes.{Outcome, noId}
 use Rattle.node.specs.Clock.{unbounded, rolled}
 use Rattle.node.specs.Calls.{Call, setUp, hear, tick, request, nextFrame, Answer, after, answers, roll}
-use Rattle.node_bytes.specs.declared.Written.{Written}
+use Rattle.node_bytes.specs.declared.hear.LentHeard.{LentHeard}
+use Rattle.node_bytes.specs.declared.tick.LentTicked.{LentTicked}
 use Rattle.node_bytes.specs.declared.next_frame.GivenOut.{GivenOut}
 use Rattle.node_bytes.specs.Layout.{nodeSize}
 use Rattle.node_bytes.specs.Decoding.{decode}
 use Rattle.node_bytes.specs.Lent.{isNode, freshIn}
-use Rattle.node_bytes.specs.LentCalls.{lentOutcome, asWritten, asGivenOut, Leaves}
+use Rattle.node_bytes.specs.LentCalls.{lentOutcome, asLentHeard, asLentTicked, asGivenOut, Leaves}
 
 -- what a call on a lent node returns
 abbrev pub Returned : Call → Type 0
 Returned (setUp s settings) = Reply
-Returned (hear id dlc payload output) = Written
-Returned (tick output) = Written
+Returned (hear id dlc payload output) = LentHeard
+Returned (tick output) = LentTicked
 Returned (request s payload) = Reply
 Returned (nextFrame output) = GivenOut
 
 -- what it returns, and what it leaves in the lent output (set up and request are lent none), of this outcome
 abbrev pub Answers : (c : Call) → Outcome → Returned c → (left : List ℕ) → Type 0
 Answers (setUp s settings) o r left = r ≡ o .reply
-Answers (hear id dlc payload output) o r left = (r ≡ asWritten o) × (left ≡ over (o .bytes) output)
-Answers (tick output) o r left = (r ≡ asWritten o) × (left ≡ over (o .bytes) output)
+Answers (hear id dlc payload output) o r left = (r ≡ asLentHeard o) × (left ≡ over (o .bytes) output)
+Answers (tick output) o r left = (r ≡ asLentTicked o) × (left ≡ over (o .bytes) output)
 Answers (request s payload) o r left = r ≡ o .reply
 Answers (nextFrame output) o r left = (r ≡ asGivenOut o) × (left ≡ over (o .bytes) output)
 
@@ -38,13 +40,13 @@ Answers (nextFrame output) o r left = (r ≡ asGivenOut o) × (left ≡ over (o 
 abbrev pub Promised : (c : Call) → (before : List ℕ) → Returned c → (left after : List ℕ) → Type 0
 Promised c before r left after = Answers c (lentOutcome c before) r left × Leaves c before after
 
--- what the caller sees: its reply, its identifier, and the bytes that it says it wrote
+-- what the caller sees: its reply, its identifier, the bytes that it says it wrote, and what it tells
 abbrev pub seen : (c : Call) → Returned c → (left : List ℕ) → Answer
-seen (setUp s settings) r left = record { reply = r; id = noId; bytes = [] }
-seen (hear id dlc payload output) r left = record { reply = r .reply; id = noId; bytes = take (r .written) left }
-seen (tick output) r left = record { reply = r .reply; id = noId; bytes = take (r .written) left }
-seen (request s payload) r left = record { reply = r; id = noId; bytes = [] }
-seen (nextFrame output) r left = record { reply = r .reply; id = r .id; bytes = take (r .len) left }
+seen (setUp s settings) r left = record { reply = r; id = noId; bytes = []; report = silent }
+seen (hear id dlc payload output) r left = record { reply = r .reply; id = noId; bytes = take (r .written) left; report = ofFrame (r .told) }
+seen (tick output) r left = record { reply = r .reply; id = noId; bytes = take (r .written) left; report = ofTick (r .dropped) (r .delivered) }
+seen (request s payload) r left = record { reply = r; id = noId; bytes = []; report = silent }
+seen (nextFrame output) r left = record { reply = r .reply; id = r .id; bytes = take (r .len) left; report = silent }
 
 -- from the lent bytes before some calls to those after them, and what was seen of each call
 pub data Run : (before : List ℕ) → List Call → List Answer → (end : List ℕ) → Type 0 where
@@ -68,7 +70,7 @@ EveryHistory =
 
 -- ── in a buffer of another length ──
 abbrev pub noNode : Answer
-noNode = record { reply = BadLength; id = noId; bytes = [] }
+noNode = record { reply = BadLength; id = noId; bytes = []; report = silent }
 
 -- fresh and every call leave every byte, and every call answers BadLength
 pub record Untouched (buffer : List ℕ) (calls : List Call) (xs : List Answer) (end : List ℕ) : Type 0 where

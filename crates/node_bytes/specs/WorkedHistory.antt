@@ -3,6 +3,7 @@ use Prim.Native.Nat.{ℕ}
 use mathlib.Core.List.{List, [], _∷_, _++_}
 use lib.ListN.{replicate}
 use Rattle.wire.specs.declared.reply.Reply.the-variants.{Done}
+use Rattle.node.specs.Told.{silent}
 use Rattle.node.specs.Nodes.{noId}
 use Rattle.node.specs.Calls.{Call, Answer}
 use Rattle.node.specs.Moments.{five, send, settings, request₅, next, one-tick}
@@ -14,11 +15,11 @@ abbrev pub sent : List Call
 sent = Call.setUp five (settings send 6) ∷ request₅ ∷ next ∷ one-tick ∷ []
 
 abbrev done : Answer
-done = record { reply = Done; id = noId; bytes = [] }
+done = record { reply = Done; id = noId; bytes = []; report = silent }
 
 -- the data frame has identifier 20
 abbrev pub sentSeen : List Answer
-sentSeen = done ∷ done ∷ record { reply = Done; id = record { 0 = 20 }; bytes = 0x0a ∷ 0x0b ∷ [] } ∷ done ∷ []
+sentSeen = done ∷ done ∷ record { reply = Done; id = record { 0 = 20 }; bytes = 0x0a ∷ 0x0b ∷ []; report = silent } ∷ done ∷ []
 
 -- a node with one slot, that of stream 5
 abbrev oneSlot : (key state message : List ℕ) → (counter : ℕ) → List ℕ

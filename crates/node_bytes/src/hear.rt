@@ -1,5 +1,4 @@
 // Hearing a frame, on a lent node.
-use crate::Written;
 use crate::counter::counter_of;
 use crate::finding::find;
 use crate::layout;
@@ -7,37 +6,49 @@ use crate::slots::put_slot;
 use crate::slots::slot_at;
 use node::Node;
 use node::hear::deliver_plain;
-use wire::frame::bad_frame;
+use node::told::Told;
+use wire::frame::frame_reply;
 use wire::ids::BusId;
 use wire::reply::Reply;
 ghost use mathlib.Core.Path.{_≡_};
 ghost use Rattle.wire.specs.Delivered.{over};
 ghost use Rattle.node.specs.Calls.{Call};
-ghost use Rattle.node_bytes.specs.LentCalls.{lentOutcome, asWritten, Leaves};
+ghost use Rattle.node_bytes.specs.LentCalls.{lentOutcome, asLentHeard, Leaves};
+
+// What hear answers: how many bytes of the output were written, and what the frame did.
+pub struct LentHeard {
+    pub reply: Reply,
+    pub written: usize,
+    pub told: Told,
+}
 
 // Takes in a frame that the controller received.
-pub fn hear(bytes: &mut [u8], id: BusId, dlc: u8, payload: &[u8], out: &mut [u8]) -> Written
-    ensures answer { λ r. ⌜ r ≡ asWritten (lentOutcome (Call.hear id dlc (now (payload .entry)) (now (out .entry))) (now (bytes .entry))) ⌝ }
+pub fn hear(bytes: &mut [u8], id: BusId, dlc: u8, payload: &[u8], out: &mut [u8]) -> LentHeard
+    ensures answer { λ r. ⌜ r ≡ asLentHeard (lentOutcome (Call.hear id dlc (now (payload .entry)) (now (out .entry))) (now (bytes .entry))) ⌝ }
     ensures output { λ _. ⌜ now (out .exit)
         ≡ over (lentOutcome (Call.hear id dlc (now (payload .entry)) (now (out .entry))) (now (bytes .entry)) .bytes) (now (out .entry)) ⌝ }
     ensures leaves { λ _. ⌜ Leaves (Call.hear id dlc (now (payload .entry)) (now (out .entry))) (now (bytes .entry)) (now (bytes .exit)) ⌝ }
 {
     if bytes.len() != layout::NODE_SIZE {
-        return Written {
+        return LentHeard {
             reply: Reply::BadLength,
             written: 0,
+            told: Told::Nothing,
         };
     }
     if out.len() < Node::HEAR_ROOM {
-        return Written {
+        return LentHeard {
             reply: Reply::ShortOutput,
             written: 0,
+            told: Told::Nothing,
         };
     }
-    if bad_frame(id, dlc, payload) {
-        return Written {
-            reply: Reply::BadFrame,
+    let fault = frame_reply(id.is_bare(), id, dlc, payload);
+    if fault.number() != 0 {
+        return LentHeard {
+            reply: fault,
             written: 0,
+            told: Told::Nothing,
         };
     }
     let parts = id.split();
@@ -45,24 +56,28 @@ pub fn hear(bytes: &mut [u8], id: BusId, dlc: u8, payload: &[u8], out: &mut [u8]
     let code = parts.code;
     let i = find(bytes, stream);
     if i >= Node::SLOTS {
-        return Written {
+        return LentHeard {
             reply: Reply::NotMine,
             written: 0,
+            told: Told::Nothing,
         };
     }
     let slot = slot_at(bytes, i);
     let reply = slot.hear_reply(code, payload);
     if reply.number() != 0 {
-        return Written {
+        return LentHeard {
             reply: reply,
             written: 0,
+            told: Told::Nothing,
         };
     }
+    let told = slot.told(code);
     let heard = slot.hear(counter_of(bytes), code, payload);
     put_slot(bytes, i, heard);
     let written = deliver_plain(out, stream, code, payload);
-    Written {
+    LentHeard {
         reply: Reply::Done,
         written: written,
+        told: told,
     }
 }

@@ -28,7 +28,6 @@
 //
 // A call answers, and leaves, what the node's own call does to the node that the bytes are. It
 // decodes the one slot that it is about, takes the step that `node` has for it, and stores it.
-use wire::reply::Reply;
 
 pub mod counter;
 mod finding;
@@ -41,9 +40,3 @@ pub mod request;
 pub mod set_up;
 pub mod slots;
 pub mod tick;
-
-// What hear and tick answer: how many bytes of the output were written.
-pub struct Written {
-    pub reply: Reply,
-    pub written: usize,
-}

@@ -55,7 +55,7 @@ pub fn next_frame(bytes: &mut [u8], out: &mut [u8]) -> GivenOut
     let id = joined.id;
     let len = give_payload(out, s, code);
     let t = s.given_out(code);
-    put_pending(bytes, i, t.pending);
+    put_pending(bytes, i, s.pending, t.pending);
     GivenOut {
         reply: Reply::Done,
         id: id,

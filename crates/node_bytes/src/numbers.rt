@@ -1,7 +1,8 @@
 // Numbers, flags and rows of eight bytes, at a place of some bytes. Numbers have their lowest byte first.
 ghost use mathlib.Core.Path.{_≡_};
 ghost use Prim.Native.Nat.{_+_, _≤_, _<_};
-ghost use lib.ListN.{length};
+ghost use mathlib.Core.Bool.{cond, not};
+ghost use lib.ListN.{length, set};
 ghost use lib.Seq.{sets};
 ghost use Rattle.wire.specs.Delivered.{numberAt, littleEndian};
 ghost use Rattle.node_bytes.specs.Decoding.{flagAt, bytesAt};
@@ -47,7 +48,7 @@ pub(crate) fn eight_at(bytes: &[u8], at: usize) -> [u8; 8]
     ]
 }
 
-fn wide16(x: u8) -> u16
+pub(crate) fn wide16(x: u8) -> u16
     ensures { λ r. ⌜ (r ≡ x) × (r ≤ 255) ⌝ }
 {
     x as u16
@@ -63,6 +64,23 @@ pub(crate) fn flag(b: bool) -> u8
     ensures { λ r. ⌜ r ≡ flag b ⌝ }
 {
     if b { 1 } else { 0 }
+}
+
+// Sets a flag that is `old`, where it changes.
+pub(crate) fn put_flag(out: &mut [u8], at: usize, old: bool, new: bool)
+    requires { ⌜ at < length (now out) ⌝ }
+    ensures { λ _. ⌜ now (out .exit)
+        ≡ cond new (cond (not old) (set (now (out .entry)) at 1) (now (out .entry))) (cond old (set (now (out .entry)) at 0) (now (out .entry))) ⌝ }
+{
+    if new {
+        if !old {
+            out[at] = 1;
+        }
+        return;
+    }
+    if old {
+        out[at] = 0;
+    }
 }
 
 pub(crate) fn put_two(out: &mut [u8], at: usize, n: u16)

@@ -6,26 +6,24 @@ use crate::numbers::flag;
 use crate::numbers::flag_at;
 use crate::numbers::four_at;
 use crate::numbers::put_eight;
+use crate::numbers::put_flag;
 use crate::numbers::put_two;
 use crate::numbers::two_at;
+use crate::numbers::wide16;
 use node::slots::Message;
 use node::slots::Pending;
 use node::slots::Slot;
-use node::tick::age;
 use wire::ids::Stream;
 use wire::settings::Settings;
 ghost use mathlib.Core.Path.{_≡_};
-ghost use Prim.Native.Nat.{_+_, _≤_, _<_};
+ghost use Prim.Native.Nat.{_+_, _*_, _≤_, _<_};
 ghost use lib.ListN.{length};
 ghost use lib.Seq.{sets};
 ghost use mathlib.Core.Bool.{true};
-ghost use Rattle.node.specs.Slots.{isFree, isOf, withParts, withMessage};
+ghost use Rattle.node.specs.Slots.{isFree, isOf, frames, withParts, withMessage};
 ghost use Rattle.node.specs.Nodes.{slotCount};
 ghost use Rattle.node.specs.Request.{hasPending};
 ghost use Rattle.node.specs.NextFrame.{hasFrame};
-ghost use Rattle.node.specs.Clock.{rolled};
-ghost use Rattle.node.specs.Tick.{ageOf};
-ghost use Rattle.node.specs.Stirring.{mayStir};
 ghost use Rattle.node.proofs.set_up.Placing.{isAfter};
 ghost use Rattle.node_bytes.specs.Layout.{slotStart, slotSize, nodeSize};
 ghost use Rattle.node_bytes.specs.Decoding.{settingsFrom, messageFrom, pendingFrom, slotAt, decode};
@@ -120,12 +118,16 @@ pub(crate) fn slot_at(bytes: &[u8], i: usize) -> Slot
     }
 }
 
+// Whether slot i is in use for this stream: most are of another, and of these the stream alone is read.
 pub(crate) fn of_at(bytes: &[u8], i: usize, stream: Stream) -> bool
     requires { ⌜ (length (now bytes) ≡ nodeSize) × (i < slotCount) ⌝ }
     ensures { λ r. ⌜ r ≡ isOf stream (slotAt (now (bytes .entry)) i) ⌝ }
 {
     let at = layout::SLOT_SIZE * i;
-    flag_at(bytes, layout::USED + at) & (four_at(bytes, layout::STREAM + at) == stream.0)
+    if four_at(bytes, layout::STREAM + at) != stream.0 {
+        return false;
+    }
+    flag_at(bytes, layout::USED + at)
 }
 
 pub(crate) fn free_at(bytes: &[u8], i: usize) -> bool
@@ -178,23 +180,40 @@ pub(crate) fn stamp_at(bytes: &[u8], i: usize) -> u16
     two_at(bytes, layout::STAMP + layout::SLOT_SIZE * i)
 }
 
-// Whether slot i holds a message that is old enough now that a tick may change the slot.
-pub(crate) fn may_stir_at(bytes: &[u8], i: usize, counter: u16) -> bool
+// A role and a class as one number: the class counts 256.
+pub(crate) const RECEIVES_IMD: u16 = 256;
+
+pub(crate) const RECEIVES_TWO_MESSAGE: u16 = 512;
+
+// Of slot i. One test of it is a test of both.
+pub(crate) fn kind_at(bytes: &[u8], i: usize) -> u16
     requires { ⌜ (length (now bytes) ≡ nodeSize) × (i < slotCount) ⌝ }
-    ensures { λ r. ⌜ r ≡ mayStir (ageOf rolled counter (slotAt (now (bytes .entry)) i)) (slotAt (now (bytes .entry)) i) ⌝ }
+    ensures { λ r. ⌜ (r ≡ slotAt (now (bytes .entry)) i .settings .role + 256 * slotAt (now (bytes .entry)) i .settings .class)
+        × (slotAt (now (bytes .entry)) i .settings .role ≤ 255) ⌝ }
 {
-    if !held_at(bytes, i) {
-        return false;
-    }
     let at = layout::SLOT_SIZE * i;
-    let a = age(counter, stamp_at(bytes, i));
-    if a > two_at(bytes, layout::DELIVER_DELAY + at) {
-        return true;
-    }
-    if bytes[layout::CLASS + at] == Settings::TWO_MESSAGE {
-        return a > two_at(bytes, layout::CONFIRM_DELAY + at);
-    }
-    false
+    wide16(bytes[layout::ROLE + at]) + 256 * wide16(bytes[layout::CLASS + at])
+}
+
+pub(crate) fn confirmed_at(bytes: &[u8], i: usize) -> bool
+    requires { ⌜ (length (now bytes) ≡ nodeSize) × (i < slotCount) ⌝ }
+    ensures { λ r. ⌜ r ≡ slotAt (now (bytes .entry)) i .message .confirmed ⌝ }
+{
+    flag_at(bytes, layout::CONFIRMED + layout::SLOT_SIZE * i)
+}
+
+pub(crate) fn confirm_delay_at(bytes: &[u8], i: usize) -> u16
+    requires { ⌜ (length (now bytes) ≡ nodeSize) × (i < slotCount) ⌝ }
+    ensures { λ r. ⌜ r ≡ slotAt (now (bytes .entry)) i .settings .dc ⌝ }
+{
+    two_at(bytes, layout::CONFIRM_DELAY + layout::SLOT_SIZE * i)
+}
+
+pub(crate) fn deliver_delay_at(bytes: &[u8], i: usize) -> u16
+    requires { ⌜ (length (now bytes) ≡ nodeSize) × (i < slotCount) ⌝ }
+    ensures { λ r. ⌜ r ≡ slotAt (now (bytes .entry)) i .settings .dd ⌝ }
+{
+    two_at(bytes, layout::DELIVER_DELAY + layout::SLOT_SIZE * i)
 }
 
 // Parts of the slot whose first byte stands at a place.
@@ -236,17 +255,39 @@ fn pending_from(bytes: &[u8], at: usize) -> Pending
     }
 }
 
-// Sets which frames of slot i are pending, and nothing else of it.
-pub(crate) fn put_pending(bytes: &mut [u8], i: usize, pending: Pending)
+// Sets which frames of slot i are pending, of which `old` are so far, and nothing else of it. A flag that stays is not stored.
+pub(crate) fn put_pending(bytes: &mut [u8], i: usize, old: Pending, new: Pending)
+    requires { ⌜ (length (now bytes) ≡ nodeSize) × (i < slotCount) × (old ≡ slotAt (now bytes) i .pending) ⌝ }
+    ensures { λ _. ⌜ (length (now (bytes .exit)) ≡ length (now (bytes .entry)))
+        × (decode (now (bytes .exit))
+        ≡ withSlot i (withParts (slotAt (now (bytes .entry)) i) (slotAt (now (bytes .entry)) i .message) new) (decode (now (bytes .entry)))) ⌝ }
+{
+    let at = layout::SLOT_SIZE * i;
+    put_flag(
+        bytes,
+        layout::PAYLOAD_PENDING + at,
+        old.payload,
+        new.payload,
+    );
+    put_flag(
+        bytes,
+        layout::CONFIRMATION_PENDING + at,
+        old.confirmation,
+        new.confirmation,
+    );
+    put_flag(bytes, layout::ABORT_PENDING + at, old.abort, new.abort);
+}
+
+// Sets whether an abort of slot i is pending, and nothing else of it.
+pub(crate) fn put_abort(bytes: &mut [u8], i: usize, abort: bool)
     requires { ⌜ (length (now bytes) ≡ nodeSize) × (i < slotCount) ⌝ }
     ensures { λ _. ⌜ (length (now (bytes .exit)) ≡ length (now (bytes .entry)))
         × (decode (now (bytes .exit))
-        ≡ withSlot i (withParts (slotAt (now (bytes .entry)) i) (slotAt (now (bytes .entry)) i .message) pending) (decode (now (bytes .entry)))) ⌝ }
+        ≡ withSlot i (withParts (slotAt (now (bytes .entry)) i) (slotAt (now (bytes .entry)) i .message)
+        (frames (slotAt (now (bytes .entry)) i .pending .payload) (slotAt (now (bytes .entry)) i .pending .confirmation) abort))
+        (decode (now (bytes .entry)))) ⌝ }
 {
-    let at = layout::SLOT_SIZE * i;
-    bytes[layout::PAYLOAD_PENDING + at] = flag(pending.payload);
-    bytes[layout::CONFIRMATION_PENDING + at] = flag(pending.confirmation);
-    bytes[layout::ABORT_PENDING + at] = flag(pending.abort);
+    bytes[layout::ABORT_PENDING + layout::SLOT_SIZE * i] = flag(abort);
 }
 
 // Sets the message of slot i, and nothing else of it.

@@ -12,10 +12,12 @@ use Rattle.wire.specs.Identifiers.{maxBusId, streamOf, codeOf}
 use Rattle.wire.specs.Frames.{maxPayload}
 use Rattle.wire.specs.Replies.{numberOf}
 use Rattle.wire.specs.Delivered.{recordOf, recordsOf, Writable, no-message, one-more}
-use Rattle.wire.proofs.Frames.{frame-bounds, frame-length}
+use Rattle.wire.specs.Frames.{isBare}
+use Rattle.wire.proofs.Frames.{frame-length}
 use Rattle.wire.proofs.LegalSettings.{legal-tells}
 use Rattle.wire.proofs.Reading.{messages-back}
 use Rattle.wire.proofs.Records.{record-length}
+use Rattle.wire.proofs.Refusing.{Refuses}
 use Rattle.node.specs.declared.slots.Slot.{Slot}
 use Rattle.node.specs.Slots.{payloadOf}
 use Rattle.node.specs.Nodes.{slotOf, Outcome}
@@ -23,7 +25,7 @@ use Rattle.node.specs.Hear.{deliveredAtOnce, hearRefusals}
 use Rattle.node.specs.Tick.{due, ageOf, dueSlots, recordsFrom, tick}
 use Rattle.node.specs.Clock.{Clock, unbounded}
 use Rattle.node.specs.Reachable.{KeptSlot, All}
-use Rattle.node.proofs.Cases.{Refuses, by-case}
+use Rattle.node.proofs.Cases.{by-case}
 use Rattle.node.proofs.slots.Table.{all-weaken}
 use Rattle.node.proofs.hear.Cases.{hear-cases}
 use Rattle.node.proofs.tick.Cases.{tick-cases}
@@ -89,7 +91,7 @@ plain-is-delivered n id dlc payload =
     (λ (o : Outcome). deliveredBy o ≡ cond (eqb (numberOf (o .reply)) 0 && eqb (codeOf id) 3) (deliveredAt (n .counter) (streamOf id, payload) ∷ []) [])
     refused
     (λ facts.
-    taken (frame-bounds id dlc (length payload) (facts .good) .identifier) (frame-length id dlc (length payload) (facts .good)) (eqb (codeOf id) 3))
+    taken (facts .good .identifier) (frame-length (isBare id) id dlc (length payload) (facts .good)) (eqb (codeOf id) 3))
     (hear-cases id dlc payload room n .case)
   where
     only : Bool → List Delivery

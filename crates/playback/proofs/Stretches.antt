@@ -3,13 +3,15 @@ use mathlib.Core.Path.{_≡_, refl, sym, ap, _∙_}
 use mathlib.Core.Bool.{Bool, true, false, cond, not, _&&_}
 use mathlib.Core.List.{List, [], _∷_}
 use Prim.Native.Nat.{ℕ, zero, suc, _+_, _-_, _%_, _≤_, _<_, min}
-use native.Mathlib.Nat.{add-zero}
+use native.Mathlib.Nat.{add-zero, zero-add}
 use native.Mathlib.Omega.{arith}
 use Rattle.wire.specs.Settings.{sends, isTwoMessage}
 use Rattle.node.specs.declared.slots.Slot.{Slot}
 use Rattle.node.specs.declared.Node.{Node}
 use Rattle.node.specs.Nodes.{Outcome, done}
-use Rattle.node.specs.Tick.{holdLength, ageOf, recordsFrom, tick}
+use Rattle.node.specs.Slots.{many}
+use Rattle.node.specs.Told as told
+use Rattle.node.specs.Tick.{holdLength, ageOf, lapses, recordsFrom, tick}
 use Rattle.node.specs.Clock.{Clock, period, unbounded, rolled}
 use Rattle.node.specs.Calls.{Call, outcome, afterFrom, Answer, answerOf, answersFrom}
 use Rattle.node.specs.Reachable.{longest, All}
@@ -35,6 +37,12 @@ young-is-quiet age x young = go (sends (x .settings)) (isTwoMessage (x .settings
         record { not-late = sym (young-is-not-late age x h); not-due = waiting-is-not-due age x f; not-over = other-is-not-over age x e }
     go false false e f h =
         record { not-late = ready-is-not-late age x f; not-due = sym (young-is-not-due age x h); not-over = other-is-not-over age x e }
+
+-- what holds of no slot holds of 0 of them
+none-of : (test : Slot → Bool) (xs : List Slot) → All (λ x. test x ≡ false) xs → many test xs ≡ 0
+unfolding many
+none-of test [] none = refl
+none-of test (x ∷ xs) (here, others) = rw here (zero-add _ ∙ none-of test xs others)
 
 -- ── a stretch ──
 module _ (clock : Clock) where
@@ -71,6 +79,14 @@ module _ (clock : Clock) where
         go true e = young-is-quiet _ x (omega (arith, steady now (x .message .stamp), stays e))
         go false e = unheld-is-still _ x e
 
+    -- where no slot changes, nothing is dropped and nothing delivered
+    tells-none : (now : ℕ) (xs : List Slot) → All (StillAt clock now) xs → lapses clock now xs ≡ told.silent
+    tells-none now xs still =
+        rw (
+          none-of _ xs (all-weaken (StillAt clock now) _ (λ x s. s .not-late) xs still),
+          none-of _ xs (all-weaken (StillAt clock now) _ (λ x s. s .not-due) xs still),
+        )
+
     -- one tick
     quiet-tick : (k : ℕ) (n : Node) → All (Stays (n .counter) (suc k)) (n .slots)
         → outcome clock (Call.tick room) n ≡ done (standing (clock .next (n .counter)) n) []
@@ -79,7 +95,7 @@ module _ (clock : Clock) where
         let now = clock .next (n .counter) in
         let still = all-weaken (Stays (n .counter) (suc k)) (StillAt clock now) (quiet-slot (n .counter) k) (n .slots) all in
         let (same, none) = still-tick clock now (n .slots) still in
-        tick-cases room clock n .accepted-if (record { room = omega arith }) ∙ rw (same, none)
+        tick-cases room clock n .accepted-if (record { room = omega arith }) ∙ rw (same, none, tells-none now (n .slots) still)
 
     goes-on : (now k : ℕ) (xs : List Slot) → All (Stays now (suc k)) xs → All (Stays (clock .next now) k) xs
     goes-on now k xs all =

@@ -18,8 +18,10 @@ use Rattle.heard.specs.declared.reply.Reply.the-variants.{Done, ShortOutput, Cu
 use Rattle.heard.specs.Replies.{numberOf}
 use Rattle.heard.specs.Reading.{heardAt}
 use Rattle.node.specs.declared.Answered.{Answered}
-use Rattle.node.specs.declared.Delivered.{Delivered}
-use Rattle.node.specs.Nodes.{asAnswered, asDelivered}
+use Rattle.node.specs.declared.Node.{Node}
+use Rattle.node.specs.declared.Heard.{Heard}
+use Rattle.node.specs.declared.Ticked.{Ticked}
+use Rattle.node.specs.Nodes.{asAnswered, asHeard, asTicked}
 use Rattle.node.specs.SetUp.{setUp}
 use Rattle.node.specs.Hear.{hear}
 use Rattle.node.specs.Tick.{tickRoom, tick}
@@ -84,30 +86,30 @@ module _ (p : Playback) where
   jumps k counter ticks e f = rw (e, f)
 
   -- a step that went on, from what the node's call answered
-  abbrev pub goesOn : (ticks taken took : ℕ) → Delivered → Stepped
-  goesOn ticks taken took d =
+  abbrev pub goesOn : (ticks taken took : ℕ) → Node → (written : ℕ) → Stepped
+  goesOn ticks taken took n written =
       record {
-        playback = record { node = d .node; ticks = ticks; taken = taken };
+        playback = record { node = n; ticks = ticks; taken = taken };
         way = On;
         reply = Done;
         offset = 0;
         took = took;
-        written = d .written;
+        written = written;
       }
 
-  pub ticks-once : (output : List ℕ) (d : Delivered) (ticks : ℕ) → d ≡ asDelivered (tick rolled output (p .node)) → ticks ≡ in64 (p .ticks + 1)
-      → goesOn ticks (p .taken) 0 d ≡ asStepped (tickStep output p)
+  pub ticks-once : (output : List ℕ) (d : Ticked) (ticks : ℕ) → d ≡ asTicked (tick rolled output (p .node)) → ticks ≡ in64 (p .ticks + 1)
+      → goesOn ticks (p .taken) 0 (d .node) (d .written) ≡ asStepped (tickStep output p)
   unfolding tickStep
-  ticks-once output d ticks e f = rw f (ap (goesOn _ (p .taken) 0) e)
+  ticks-once output d ticks e f = rw f (ap (λ (k : Ticked). goesOn (in64 (p .ticks + 1)) (p .taken) 0 (k .node) (k .written)) e)
 
   -- the payload is so many bytes of the window
-  pub hears-once : (r : HeardAt) (window output left : List ℕ) (d : Delivered) (n taken : ℕ) → n ≡ r .length
-      → (d ≡ asDelivered (hear (r .heard .id) (r .heard .dlc) (take n (drop (r .payload) window)) output (p .node)))
+  pub hears-once : (r : HeardAt) (window output left : List ℕ) (d : Heard) (n taken : ℕ) → n ≡ r .length
+      → (d ≡ asHeard (hear (r .heard .id) (r .heard .dlc) (take n (drop (r .payload) window)) output (p .node)))
       × (left ≡ over (hear (r .heard .id) (r .heard .dlc) (take n (drop (r .payload) window)) output (p .node) .bytes) output)
       → taken ≡ in64 (p .taken + r .next)
-      → (goesOn (p .ticks) taken (r .next) d ≡ asStepped (hearStep r window output p)) × (left ≡ over (hearStep r window output p .bytes) output)
+      → (goesOn (p .ticks) taken (r .next) (d .node) (d .written) ≡ asStepped (hearStep r window output p)) × (left ≡ over (hearStep r window output p .bytes) output)
   unfolding hearStep
-  hears-once r window output left d n taken long (e, w) f = rw (← long) (rw f (ap (goesOn (p .ticks) _ (r .next)) e), w)
+  hears-once r window output left d n taken long (e, w) f = rw (← long) (rw f (ap (λ (k : Heard). goesOn (p .ticks) (in64 (p .taken + r .next)) (r .next) (k .node) (k .written)) e), w)
 
   -- at a record that cannot be read
   module _ (reply : Reply) (ended : Bool) (n cut : ℕ) (e : n ≡ numberOf reply) (f : cut ≡ numberOf CutRecord) where

@@ -14,7 +14,6 @@ use Rattle.wire.specs.declared.settings.Settings.{Settings}
 use Rattle.wire.specs.Replies as of-node
 use Rattle.wire.specs.Classes.{carries}
 use Rattle.wire.specs.Delivered as delivered
-use Rattle.wire.specs.Frames.{badFrame}
 use Rattle.wire.specs.Settings.{legal}
 use Rattle.heard.specs.Kinds.{countBytes}
 use Rattle.heard.specs.Reading.{heardAt}
@@ -132,9 +131,9 @@ all-so (r ∷ rs) short =
 
 pub replayed-as-worked : ReplayedAsWorked
 unfolding rows step towards tickStep hearStep quietIn withSlot gapFrom heardAt countBytes recordOf setUp inPlace lessFree hear heardBy
-    deliveredAtOnce tick late due holdOver lapsed dueSlots recordsFrom delivered.recordOf legal badFrame carries first onFirst some sameBytes delivered.recordAt
+    deliveredAtOnce tick late due holdOver lapsed dueSlots recordsFrom delivered.recordOf legal carries first onFirst some sameBytes delivered.recordAt
 replayed-as-worked = all-so rows refl ∙ refl
 
 pub quiet-as-worked : QuietAsWorked
-unfolding stretches quietIn withSlot setUp inPlace lessFree hear heardBy deliveredAtOnce request requested legal badFrame carries first onFirst some sameBytes
+unfolding stretches quietIn withSlot setUp inPlace lessFree hear heardBy deliveredAtOnce request requested legal carries first onFirst some sameBytes
 quiet-as-worked = refl

@@ -9,6 +9,7 @@ use Rattle.wire.specs.declared.reply.Reply.the-variants.{Done}
 use Rattle.node.specs.declared.slots.Slot.{Slot}
 use Rattle.node.specs.declared.Node.{Node}
 use Rattle.node.specs.Nodes.{noId}
+use Rattle.node.specs.Told as told
 use Rattle.node.specs.Tick.{ageOf}
 use Rattle.node.specs.Clock.{Clock, period, unbounded, rolled}
 use Rattle.node.specs.Calls.{Call, tick, afterFrom, Answer, answersFrom}
@@ -35,9 +36,9 @@ standing counter n = record { slots = n .slots; counter = counter }
 abbrev pub ticks : (k : ℕ) → List Call
 ticks k = replicate k (tick room)
 
--- a tick that delivers nothing
+-- a tick that delivers nothing and drops nothing
 abbrev pub silent : Answer
-silent = record { reply = Done; id = noId; bytes = [] }
+silent = record { reply = Done; id = noId; bytes = []; report = told.silent }
 
 -- k ticks on a node that come to no more than another count
 abbrev pub NothingButCounts : Clock → (k : ℕ) → Node → (counter : ℕ) → Type 0

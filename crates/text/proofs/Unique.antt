@@ -33,6 +33,7 @@ use Rattle.text.proofs.output.put_byte.Reads as put-byte
 use Rattle.text.proofs.output.put_decimal.Reads as put-decimal
 use Rattle.text.proofs.output.put_parted.Reads as put-parted
 use Rattle.text.proofs.output.put_hex.Reads as put-hex
+use Rattle.text.proofs.told.put_told.Reads as put-told
 
 -- two values that meet the same definition are equal
 same : {A : Type 0} {d a b : A} → a ≡ d → b ≡ d → a ≡ b
@@ -150,3 +151,9 @@ put-hex-unique l input a b s t p q = same (p .past) (q .past)
 
 put-hex-content-unique : OneContent (λ l e. now (e .0)) put-hex.Post
 put-hex-content-unique l input a b s t p q = same (p .whole) (q .whole)
+
+put-told-unique : OneAnswer (λ l a. a) put-told.Post
+put-told-unique l input a b s t p q = same (p .past) (q .past)
+
+put-told-content-unique : OneContent (λ l e. now (e .0)) put-told.Post
+put-told-content-unique l input a b s t p q = same (p .whole) (q .whole)

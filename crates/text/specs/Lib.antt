@@ -7,4 +7,5 @@ pub mod Numbers
 pub mod Payloads
 pub mod Settings
 pub mod Output
+pub mod Told
 pub mod Unique

@@ -9,6 +9,7 @@ pub mod numbers;
 pub mod output;
 pub mod payloads;
 pub mod settings;
+pub mod told;
 pub mod window;
 pub mod words;
 

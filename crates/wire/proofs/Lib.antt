@@ -5,6 +5,7 @@ pub mod Identifiers
 pub mod LegalSettings
 pub mod Reading
 pub mod Records
+pub mod Refusing
 pub mod Replies
 pub mod Unique
 pub mod Variants

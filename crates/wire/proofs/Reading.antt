@@ -1,6 +1,6 @@
 -- Reading a delivered record: the ways to each answer; what was written is read, and what was read is written again.
 use mathlib.Core.Path.{_≡_, refl, sym, ap, _∙_}
-use mathlib.Core.Bool.{Bool, true, false, cond, not, or-true, false≢true}
+use mathlib.Core.Bool.{Bool, true, false, cond, not, _||_, or-true, false≢true}
 use mathlib.Core.Logic.{_≢_}
 use mathlib.Core.List.{List, [], _∷_, _++_, append-nil, append-assoc}
 use Prim.Native.Nat.{ℕ, zero, suc, _+_, _-_, _*_, _/_, _%_, _≤_, _<_}
@@ -17,8 +17,12 @@ use Rattle.wire.specs.Frames.{maxPayload}
 use Rattle.wire.specs.Delivered.{littleEndian, deliveredKind, recordOf, over, fitting, numberAt, following}
 use Rattle.wire.specs.Delivered.{isCut, otherLength, recordFound, noRecord, recordAt}
 use Rattle.wire.specs.Delivered.{recordsOf, messageIn, messagesAt, Writable, no-message, one-more, AreBytes}
-use Rattle.wire.proofs.Frames.{neither}
 use Rattle.wire.proofs.Records.{record-length, does-fit}
+
+-- two tests of which neither holds
+pub neither : (a b : Bool) → (a || b) ≡ false → (a ≡ false) × (b ≡ false)
+neither true b e = absurd (false≢true (sym e))
+neither false b e = (refl, e)
 
 -- the answer where no test fails
 abbrev foundAt : List ℕ → ℕ → RecordAt

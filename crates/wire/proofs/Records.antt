@@ -1,12 +1,12 @@
 -- The delivered record's length and the worked record; what writing leaves in an output, and how the writer comes to it.
-use mathlib.Core.Path.{_≡_, refl, ap}
+use mathlib.Core.Path.{_≡_, refl, sym, ap, _∙_}
 use mathlib.Core.List.{List, [], _∷_, _++_}
 use Prim.Native.Nat.{ℕ, zero, suc, _+_, _/_, _%_, _≤_, _<_, min}
-use native.Mathlib.Nat.{zero-min, min-zero, suc-min-suc}
+use native.Mathlib.Nat.{zero-min, min-zero, suc-min-suc, add-zero}
 use native.Mathlib.Omega.{arith}
 use borrow.Author.Tests.{le-leb, lt-leb}
-use lib.ListN.{length, take, drop, length-append, length-take, length-drop}
-use lib.Seq.{sets, sets-eq, paste, length-take-le, drop-drop, drop-append-add}
+use lib.ListN.{length, getD, set, take, drop, length-append, length-take, length-drop}
+use lib.Seq.{sets, sets-eq, paste, paste-zero, paste-suc, length-take-le, drop-drop, drop-append-add}
 use Rattle.wire.specs.declared.ids.Stream.{Stream}
 use Rattle.wire.specs.declared.reply.Reply.the-variants.{Done}
 use Rattle.wire.specs.Frames.{maxPayload}
@@ -72,3 +72,19 @@ stored-then-pasted s out bytes n small room enough =
     let long : length (take n bytes) ≡ n = length-take-le n bytes enough in
     rw (sets-eq (header s n) out 0 (omega arith), drop-append-add (header s n) (drop 8 out) n, drop-drop n 8 out)
     (rw (record-length s (take n bytes), header-and-payload s (take n bytes) (omega arith), long))
+
+-- eight bytes, each stored at its place
+module _ (out : List ℕ) (at : ℕ) (bytes : List ℕ) (room : at + 8 ≤ length out) (enough : 8 ≤ length bytes) where
+  one-more : (j : ℕ) → j < 8 → {stored : List ℕ} → stored ≡ paste out at bytes j → set stored (at + j) (getD bytes j 0) ≡ paste out at bytes (suc j)
+  one-more j h e = rw e (paste-suc out at bytes j 0 (omega arith) (omega arith))
+
+  first : set out at (getD bytes 0 0) ≡ paste out at bytes 1
+  first = ap (λ (k : ℕ). set out k (getD bytes 0 0)) (sym (add-zero at)) ∙ one-more 0 (omega arith) (paste-zero out at bytes)
+
+  pub eight-pasted
+      : set (set (set (set (set (set (set (set out at (getD bytes 0 0)) (at + 1) (getD bytes 1 0)) (at + 2) (getD bytes 2 0)) (at + 3) (getD bytes 3 0))
+      (at + 4) (getD bytes 4 0)) (at + 5) (getD bytes 5 0)) (at + 6) (getD bytes 6 0)) (at + 7) (getD bytes 7 0)
+      ≡ paste out at bytes 8
+  eight-pasted =
+      one-more 7 (omega arith) (one-more 6 (omega arith) (one-more 5 (omega arith) (one-more 4 (omega arith) (one-more 3 (omega arith)
+      (one-more 2 (omega arith) (one-more 1 (omega arith) first))))))

@@ -1,8 +1,7 @@
--- The worked frames are taken and refused as their table says.
+-- The worked frames are answered as their table says.
 use mathlib.Core.Path.{refl}
-use Rattle.wire.specs.Frames.{badFrame}
 use Rattle.wire.specs.WorkedFrames.{frameRows, FramesAsWorked}
 
 pub frames-as-worked : FramesAsWorked
-unfolding frameRows badFrame
+unfolding frameRows
 frames-as-worked = refl

@@ -1,11 +1,15 @@
--- The frame test: what is refused as BadFrame.
+-- The frame test: what is no frame, and which of its faults is answered.
 use mathlib.Core.Path.{_≡_}
-use mathlib.Core.Logic.{_⊎_, _≢_}
-use Prim.Native.Nat.{ℕ, _<_, min}
-use mathlib.Core.Bool.{Bool, not, _&&_, _||_}
+use mathlib.Core.Logic.{_≢_}
+use mathlib.Core.Bool.{Bool, true, not, _&&_, _||_}
+use mathlib.Core.List.{[], _∷_}
+use Prim.Native.Nat.{ℕ, _≤_, _<_, min}
 use lib.Dec.{eqb, ltb}
 use Rattle.wire.specs.declared.ids.BusId.{BusId}
+use Rattle.wire.specs.declared.reply.Reply.{Reply}
+use Rattle.wire.specs.declared.reply.Reply.the-variants.{Done, IdentifierTooBig, DlcTooBig, PayloadLength, UnwantedPayload}
 use Rattle.wire.specs.Identifiers.{maxBusId, codeOf}
+use Rattle.wire.specs.Refusals.{Refusals}
 
 -- a payload has at most this many bytes
 abbrev pub maxPayload : ℕ
@@ -19,17 +23,23 @@ maxDlc = 15
 abbrev pub bytesOfDlc : (dlc : ℕ) → ℕ
 bytesOfDlc dlc = min dlc maxPayload
 
--- confirmations and aborts have no payload
-abbrev pub unwantedPayload : BusId → (dlc : ℕ) → Bool
-unwantedPayload id dlc = (eqb (codeOf id) 1 || eqb (codeOf id) 2) && not (eqb dlc 0)
+-- confirmations and aborts come without a payload
+abbrev pub isBare : BusId → Bool
+isBare id = eqb (codeOf id) 1 || eqb (codeOf id) 2
 
-unfoldable pub badFrame : BusId → (dlc length : ℕ) → Bool
-badFrame id dlc length =
-    ltb maxBusId (id .0) || ltb maxDlc dlc || not (eqb length (bytesOfDlc dlc)) || unwantedPayload id dlc
+-- what is no frame, of a kind that comes bare, without a payload, or not
+abbrev pub frameRefusals : (bare : Bool) → BusId → (dlc length : ℕ) → Refusals
+frameRefusals bare id dlc length =
+    (IdentifierTooBig, ltb maxBusId (id .0))
+    ∷ (DlcTooBig, ltb maxDlc dlc)
+    ∷ (PayloadLength, not (eqb length (bytesOfDlc dlc)))
+    ∷ (UnwantedPayload, bare && not (eqb dlc 0))
+    ∷ []
 
--- what `badFrame` tells (proofs/Frames.antt): one of the rules paper's four faults
-pub data NoFrame (id : BusId) (dlc length : ℕ) : Type 0 where
-  high-identifier : maxBusId < id .0 → NoFrame id dlc length
-  high-dlc : maxDlc < dlc → NoFrame id dlc length
-  other-length : length ≢ bytesOfDlc dlc → NoFrame id dlc length
-  unwanted : (codeOf id ≡ 1) ⊎ (codeOf id ≡ 2) → dlc ≢ 0 → NoFrame id dlc length
+-- what the reply of these tells (proofs/Frames.antt): the first fault of the four, or that there is none
+pub data Tested (bare : Bool) (id : BusId) (dlc length : ℕ) : Reply → Type 0 where
+  high-identifier : maxBusId < id .0 → Tested bare id dlc length IdentifierTooBig
+  high-dlc : id .0 ≤ maxBusId → maxDlc < dlc → Tested bare id dlc length DlcTooBig
+  other-length : id .0 ≤ maxBusId → dlc ≤ maxDlc → length ≢ bytesOfDlc dlc → Tested bare id dlc length PayloadLength
+  unwanted : id .0 ≤ maxBusId → dlc ≤ maxDlc → length ≡ bytesOfDlc dlc → bare ≡ true → dlc ≢ 0 → Tested bare id dlc length UnwantedPayload
+  faultless : id .0 ≤ maxBusId → dlc ≤ maxDlc → length ≡ bytesOfDlc dlc → (bare ≡ true → dlc ≡ 0) → Tested bare id dlc length Done

@@ -3,6 +3,7 @@ use Prim.Native.Nat.{ℕ}
 use Rattle.wire.specs.declared.reply.Reply.{Reply}
 use Rattle.wire.specs.declared.reply.Reply.the-variants.{Done, BadSettings, TableFull, Taken, BadFrame, NotMine, Misfit}
 use Rattle.wire.specs.declared.reply.Reply.the-variants.{Clash, Busy, NotSender, BadLength, ShortOutput, Nothing}
+use Rattle.wire.specs.declared.reply.Reply.the-variants.{IdentifierTooBig, DlcTooBig, PayloadLength, UnwantedPayload}
 
 abbrev pub numberOf : Reply → ℕ
 numberOf Done = 0
@@ -18,3 +19,7 @@ numberOf NotSender = 9
 numberOf BadLength = 10
 numberOf ShortOutput = 11
 numberOf Nothing = 12
+numberOf IdentifierTooBig = 18
+numberOf DlcTooBig = 19
+numberOf PayloadLength = 20
+numberOf UnwantedPayload = 21

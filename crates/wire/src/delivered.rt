@@ -4,8 +4,11 @@ use crate::frame::at_most_payload;
 use crate::ids::Stream;
 use crate::reply::Reply;
 ghost use mathlib.Core.Path.{_≡_};
+ghost use mathlib.Core.Bool.{cond, _&&_};
 ghost use Prim.Native.Nat.{_+_, _≤_};
 ghost use lib.ListN.{length, take};
+ghost use lib.Seq.{paste};
+ghost use lib.Dec.{leb};
 ghost use Rattle.wire.specs.Frames.{maxPayload};
 ghost use Rattle.wire.specs.Delivered.{recordLength, fitting, recordOf, over, numberAt, noRecord, recordAt};
 
@@ -60,12 +63,61 @@ fn put_record(out: &mut [u8], stream: Stream, payload: &[u8], n: usize) -> usize
     out[5] = (s1 % 256) as u8;
     out[6] = (s2 % 256) as u8;
     out[7] = (s3 % 256) as u8;
+    if n == MAX_PAYLOAD {
+        put_eight(out, RecordAt::HEAD, payload);
+        return RecordAt::HEAD + n;
+    }
     let mut i: usize = 0;
     while i < n {
         out[RecordAt::HEAD + i] = payload[i];
         i += 1;
     }
     RecordAt::HEAD + n
+}
+
+// Copies the first eight bytes of a payload to a place of the output, where both have so many.
+pub fn copy_eight(out: &mut [u8], at: usize, payload: &[u8])
+    ensures { λ _. ⌜ now (out .exit)
+        ≡ cond (leb (at + maxPayload) (length (now (out .entry))) && leb maxPayload (length (now (payload .entry))))
+        (paste (now (out .entry)) at (now (payload .entry)) maxPayload) (now (out .entry)) ⌝ }
+{
+    let room = out.len();
+    if payload.len() < MAX_PAYLOAD {
+        return;
+    }
+    if room < MAX_PAYLOAD {
+        return;
+    }
+    if room - MAX_PAYLOAD < at {
+        return;
+    }
+    put_eight(out, at, payload);
+}
+
+// A full payload is the most frequent one, and needs no loop. All of it is read before any is written, so that it is one
+// load and one store.
+fn put_eight(out: &mut [u8], at: usize, payload: &[u8])
+    requires { ⌜ (at + 8 ≤ length (now out)) × (8 ≤ length (now payload)) ⌝ }
+    ensures { λ _. ⌜ now (out .exit) ≡ paste (now (out .entry)) at (now (payload .entry)) 8 ⌝ }
+{
+    let row = [
+        payload[0],
+        payload[1],
+        payload[2],
+        payload[3],
+        payload[4],
+        payload[5],
+        payload[6],
+        payload[7],
+    ];
+    out[at] = row[0];
+    out[at + 1] = row[1];
+    out[at + 2] = row[2];
+    out[at + 3] = row[3];
+    out[at + 4] = row[4];
+    out[at + 5] = row[5];
+    out[at + 6] = row[6];
+    out[at + 7] = row[7];
 }
 
 // What stands at a place of some bytes: a record, or none and why. Where there is none, every number

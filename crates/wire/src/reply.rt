@@ -16,6 +16,10 @@ pub enum Reply {
     BadLength,
     ShortOutput,
     Nothing,
+    IdentifierTooBig,
+    DlcTooBig,
+    PayloadLength,
+    UnwantedPayload,
 }
 
 impl Reply {
@@ -37,6 +41,10 @@ impl Reply {
             Reply::BadLength => 10,
             Reply::ShortOutput => 11,
             Reply::Nothing => 12,
+            Reply::IdentifierTooBig => 18,
+            Reply::DlcTooBig => 19,
+            Reply::PayloadLength => 20,
+            Reply::UnwantedPayload => 21,
         }
     }
 }

@@ -96,27 +96,33 @@ impl Settings {
     }
 }
 
-// The same test on seven plain numbers of any size.
+// The same test on seven plain numbers of any size, by class first: the numbers of the other classes are not looked at.
 pub fn legal_numbers(stream: u32, role: u32, class: u32, rd: u32, dc: u32, ra: u32, dd: u32) -> bool
     ensures { λ r. ⌜ r ≡ legal (record { 0 = stream }) (settings role class rd dc ra dd) ⌝ }
 {
-    let plain = (rd == 0) & (dc == 0) & (ra == 0) & (dd == 0);
-    let imd = (1 <= rd)
-        & (rd <= Settings::MAX_DATA_REACH)
-        & (dc == 0)
-        & (ra == 0)
-        & (rd <= dd)
-        & (dd <= Settings::MAX_DELIVER_DELAY);
-    let two_message = (1 <= rd)
-        & (rd <= Settings::MAX_DATA_REACH)
-        & (rd <= dc)
-        & (dc <= Settings::MAX_CONFIRM_DELAY)
-        & (1 <= ra)
-        & (ra <= Settings::MAX_ABORT_REACH)
-        & ((dc as u64) + (ra as u64) + 1 <= (dd as u64))
-        & (dd <= Settings::MAX_DELIVER_DELAY);
-    let numbers = ((class == Settings::PLAIN as u32) & plain)
-        | ((class == Settings::IMD as u32) & imd)
-        | ((class == Settings::TWO_MESSAGE as u32) & two_message);
-    (stream <= Stream::MAX) & (role <= Settings::SEND as u32) & numbers
+    if !((stream <= Stream::MAX) & (role <= Settings::SEND as u32)) {
+        return false;
+    }
+    if class == Settings::PLAIN as u32 {
+        return (rd == 0) & (dc == 0) & (ra == 0) & (dd == 0);
+    }
+    if class == Settings::IMD as u32 {
+        return (1 <= rd)
+            & (rd <= Settings::MAX_DATA_REACH)
+            & (dc == 0)
+            & (ra == 0)
+            & (rd <= dd)
+            & (dd <= Settings::MAX_DELIVER_DELAY);
+    }
+    if class == Settings::TWO_MESSAGE as u32 {
+        return (1 <= rd)
+            & (rd <= Settings::MAX_DATA_REACH)
+            & (rd <= dc)
+            & (dc <= Settings::MAX_CONFIRM_DELAY)
+            & (1 <= ra)
+            & (ra <= Settings::MAX_ABORT_REACH)
+            & ((dc as u64) + (ra as u64) + 1 <= (dd as u64))
+            & (dd <= Settings::MAX_DELIVER_DELAY);
+    }
+    false
 }

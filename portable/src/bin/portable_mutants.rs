@@ -1,9 +1,10 @@
 //! `portable_mutants MIR HEADER WORK UNSEEN COUNT COUNT SEED CALLS`: tries so many one-place changes of the program, and so
 //! many of the C file that is made from it (a number, or `all`), chosen by SEED. WORK has what a comparison is linked of:
-//! `link` and `names` have the words for the C compiler. A change that CALLS random calls, more of them, and the
-//! sanitizers do not find must stand in the file UNSEEN under its reason.
+//! `link` and `names` have the words for the C compiler. A change that CALLS random calls, the sanitizers and more calls
+//! do not find must stand in the file UNSEEN under its reason, and what stands there must still be there to be
+//! changed. A run of all changes writes the list anew, to WORK/unseen.txt.
 
-use std::collections::BTreeMap;
+use std::collections::{BTreeMap, BTreeSet};
 use std::fs;
 use std::path::{Path, PathBuf};
 use std::process::{Command, ExitCode, Stdio};
@@ -28,6 +29,10 @@ struct Trial {
     link: Vec<String>,
     seed: u64,
     calls: u64,
+    /// Whether the compiler can fill locals that are not written.
+    fills: bool,
+    /// Whether all changes are tried.
+    all: bool,
 }
 
 impl Trial {
@@ -44,34 +49,46 @@ impl Trial {
     /// A comparison over this C file, and one under the sanitizers; none where it can't be compiled.
     fn compiled(&self, c: &str) -> Option<Mutant> {
         fs::write(self.path("mutant.c"), c).ok()?;
-        let program = self.program("mutant", &[])?;
+        let program = self.program("mutant", "gcc", "zero", &[])?;
         Some(Mutant { program, number: 0, sanitized: None })
     }
 
-    fn program(&self, name: &str, words: &[&str]) -> Option<String> {
+    /// A local that is not written holds what is chosen here, so that it is not right by chance.
+    fn program(&self, name: &str, compiler: &str, unwritten: &str, words: &[&str]) -> Option<String> {
         let (source, program) = (self.path("mutant.c"), self.path(name));
-        let mut compiler = Command::new("gcc");
+        let mut compiler = Command::new(compiler);
         // Without optimization: a compiler may take a store that is left out for one of any value, the right one too.
-        compiler
-            .args(["-std=c99", "-w", "-O0", "-o", &program, &source])
-            .args(words)
-            .args(&self.names)
-            .args(&self.link);
+        compiler.args(["-std=c99", "-w", "-O0", "-o", &program, &source]).args(words);
+        if self.fills {
+            compiler.arg(format!("-ftrivial-auto-var-init={unwritten}"));
+        }
+        compiler.args(&self.names).args(&self.link);
         compiler.stderr(Stdio::null()).status().ok()?.success().then_some(program)
     }
 
-    /// Whether the comparison differs, or the sanitizers stop it.
-    fn found(&self, mutant: &mut Mutant) -> Option<bool> {
-        if self.differs(&mutant.program, mutant.number, self.calls)?
-            || self.differs(&mutant.program, mutant.number, self.calls * AGAIN)?
-        {
+    /// By clang where it is there: gcc fills a bool with zeros always.
+    fn sanitized(&self) -> Option<String> {
+        let words = ["-fsanitize=address,undefined", "-fno-sanitize-recover=all"];
+        let by = |compiler| self.program("sanitized", compiler, "pattern", &words);
+        by("clang").or_else(|| by("gcc"))
+    }
+
+    /// Whether the comparison differs, or the sanitizers stop it. Of one that is listed only the first calls are made, but in
+    /// a run of all.
+    fn found(&self, mutant: &mut Mutant, listed: bool) -> Option<bool> {
+        if self.differs(&mutant.program, mutant.number, self.calls)? {
             return Some(true);
         }
-        if mutant.sanitized.is_none() {
-            mutant.sanitized =
-                self.program("sanitized", &["-fsanitize=address,undefined", "-fno-sanitize-recover=all"]);
+        if listed && !self.all {
+            return Some(false);
         }
-        self.differs(mutant.sanitized.as_ref()?, mutant.number, self.calls * AGAIN / 2)
+        if mutant.sanitized.is_none() {
+            mutant.sanitized = self.sanitized();
+        }
+        Some(
+            self.differs(mutant.sanitized.as_ref()?, mutant.number, self.calls)?
+                || self.differs(&mutant.program, mutant.number, self.calls * AGAIN)?,
+        )
     }
 
     fn differs(&self, program: &str, number: usize, calls: u64) -> Option<bool> {
@@ -100,33 +117,100 @@ struct Mutant {
     sanitized: Option<String>,
 }
 
+/// The changes that no call can show, each with its reason; what came of those that were tried.
+struct Unseen {
+    /// The lines of the list: a reason, and the changes that it holds for.
+    reasons: Vec<(String, Vec<String>)>,
+    /// Of each listed change that was tried: whether it was not found.
+    tried: BTreeMap<String, bool>,
+    /// Not found, and not listed.
+    others: BTreeSet<String>,
+}
+
+/// Stands in the place of a reason, and is none.
+const NO_REASON: &str = "No reason yet.";
+
+impl Unseen {
+    fn read(text: &str) -> Unseen {
+        let mut reasons: Vec<(String, Vec<String>)> = Vec::new();
+        for line in text.lines().filter(|line| !line.trim().is_empty()) {
+            match (line.split_once(" | "), reasons.last_mut()) {
+                (Some(_), Some((_, changes))) => changes.push(line.trim().to_string()),
+                _ => reasons.push((line.to_string(), Vec::new())),
+            }
+        }
+        Unseen { reasons, tried: BTreeMap::new(), others: BTreeSet::new() }
+    }
+
+    fn lists(&self, name: &str) -> bool {
+        self.reasons.iter().any(|(reason, changes)| reason != NO_REASON && changes.iter().any(|change| change == name))
+    }
+
+    fn listed(&self) -> impl Iterator<Item = &String> {
+        self.reasons.iter().filter(|(reason, _)| reason != NO_REASON).flat_map(|(_, changes)| changes)
+    }
+
+    /// The listed changes that the program or the C file no longer has, and, where all were tried, those that are found.
+    fn stale(&self, there: &BTreeSet<String>, all: bool) -> Vec<(&'static str, &String)> {
+        let gone =
+            self.listed().filter(|name| !there.contains(*name)).map(|name| ("no longer there to be changed", name));
+        let found = self.listed().filter(|name| all && self.tried.get(*name) == Some(&false));
+        gone.chain(found.map(|name| ("found, and needs no reason", name))).collect()
+    }
+
+    /// The list as it would be now.
+    fn renewed(&self, there: &BTreeSet<String>) -> String {
+        let stale: BTreeSet<&String> = self.stale(there, true).into_iter().map(|(_, name)| name).collect();
+        let mut out = String::new();
+        for (reason, changes) in self.reasons.iter().filter(|(reason, _)| reason != NO_REASON) {
+            let mut kept: Vec<&String> = changes.iter().filter(|name| !stale.contains(name)).collect();
+            kept.sort();
+            kept.dedup();
+            if !kept.is_empty() || changes.is_empty() {
+                out += &section(reason, kept);
+            }
+        }
+        if !self.others.is_empty() {
+            out += &section(NO_REASON, self.others.iter().collect());
+        }
+        out.trim_end().to_string() + "\n"
+    }
+}
+
+fn section(reason: &str, changes: Vec<&String>) -> String {
+    let lines: String = changes.into_iter().map(|name| format!("    {name}\n")).collect();
+    format!("{reason}\n{lines}\n")
+}
+
 /// How many changes were tried, and what came of them.
 #[derive(Default)]
 struct Score {
     found: usize,
     refused: usize,
     excused: usize,
-    wrong: usize,
 }
 
 impl Score {
-    fn count(&mut self, found: Option<bool>, name: impl Fn() -> String, reasons: &BTreeMap<&str, &str>) {
+    fn count(&mut self, found: Option<bool>, name: &str, unseen: &mut Unseen) {
+        let listed = unseen.lists(name);
+        if let (true, Some(found)) = (listed, found) {
+            *unseen.tried.entry(name.to_string()).or_insert(false) |= !found;
+        }
         match found {
             None => self.refused += 1,
             Some(true) => self.found += 1,
-            Some(false) => match reasons.get(name().as_str()) {
-                Some(reason) if !reason.is_empty() => self.excused += 1,
-                _ => {
-                    self.wrong += 1;
-                    println!("not found: {}", name());
+            Some(false) if listed => self.excused += 1,
+            Some(false) => {
+                if unseen.others.insert(name.to_string()) {
+                    println!("not found: {name}");
                 }
-            },
+            }
         }
     }
 
-    fn say(&self, kind: &str, all: usize) {
-        let Score { found, refused, excused, .. } = self;
-        println!("{kind}: of {all} changes {found} found, {refused} refused, {excused} can't be seen (listed)");
+    fn say(&self, kind: &str, tried: usize, all: usize) {
+        let Score { found, refused, excused } = self;
+        println!("{kind}: {tried} of {all} changes tried: {found} found, {refused} refused, {excused} can't be seen (listed)");
     }
 }
 
@@ -177,6 +261,84 @@ fn in_mir(text: &str, change: &Change) -> String {
     format!("{title} | {} | {}", unnumbered(&text[from..to], "place "), unnumbered(&new, "place "))
 }
 
+/// A change that is tried: its name, and the C file that it leads to.
+struct Tried {
+    name: String,
+    leads_to: LeadsTo,
+}
+
+enum LeadsTo {
+    /// It is refused.
+    Nothing,
+    /// The C file with this change, which can stand beside others in one program.
+    Change(Change),
+    /// A whole C file.
+    File(String),
+}
+
+/// The change that makes one text of another, where they differ in one line.
+fn difference(old: &str, new: &str) -> Option<Change> {
+    let same = |(a, b): &(char, char)| a == b;
+    let before: usize = old.chars().zip(new.chars()).take_while(same).map(|(a, _)| a.len_utf8()).sum();
+    let rest = (old.len() - before).min(new.len() - before);
+    let pairs = old.chars().rev().zip(new.chars().rev());
+    let mut after = 0;
+    for (a, _) in pairs.take_while(same) {
+        if after + a.len_utf8() > rest {
+            break;
+        }
+        after += a.len_utf8();
+    }
+    let change = Change { from: before, to: old.len() - after, new: new[before..new.len() - after].to_string() };
+    let within = !old[change.from..change.to].contains('\n') && !change.new.contains('\n');
+    (within && old != new).then_some(change)
+}
+
+/// Tries the changes: as many as can be in one program, in which a number chooses one when it runs.
+fn try_all(trial: &Trial, c: &str, tried: Vec<Tried>, unseen: &mut Unseen) -> Result<Score, String> {
+    let mut score = Score::default();
+    let (mut together, mut alone) = (Vec::new(), Vec::new());
+    for Tried { name, leads_to } in tried {
+        match leads_to {
+            LeadsTo::Nothing => score.count(None, &name, unseen),
+            LeadsTo::Change(change) => together.push((name, change)),
+            LeadsTo::File(text) => alone.push((name, text)),
+        }
+    }
+    let (names, changes): (Vec<_>, Vec<_>) = together.into_iter().unzip();
+    let (text, others) = gathered(c, &changes);
+    let Some(mut mutant) = trial.compiled(&text) else {
+        return Err("the C file with all changes in it can't be compiled".to_string());
+    };
+    for (number, name) in names.iter().enumerate().filter(|(number, _)| !others.contains(number)) {
+        mutant.number = number + 1;
+        score.count(trial.found(&mut mutant, unseen.lists(name)), name, unseen);
+    }
+    alone.extend(others.iter().map(|number| (names[*number].clone(), changes[*number].applied(c))));
+    for (name, text) in alone {
+        let mutant = trial.compiled(&text);
+        let found = mutant.and_then(|mut mutant| trial.found(&mut mutant, unseen.lists(&name)));
+        score.count(found, &name, unseen);
+    }
+    Ok(score)
+}
+
+/// Whether every edit that the translator must refuse is refused.
+fn all_refused(trial: &Trial, text: &str) -> bool {
+    let mut all = true;
+    for (title, old, new) in REFUSED {
+        if !text.contains(old) {
+            all = false;
+            println!("not there to be changed: {title}");
+        } else if trial.translated(&text.replacen(old, new, 1)).is_ok() {
+            all = false;
+            println!("not refused: {title}");
+        }
+    }
+    println!("{} edits that the translator must refuse", REFUSED.len());
+    all
+}
+
 fn run(words: &[String]) -> Result<bool, String> {
     let [program, header, work, unseen, of_mir_count, of_c_count, seed, calls] = words else {
         return Err("usage: portable_mutants MIR HEADER WORK UNSEEN COUNT COUNT SEED CALLS".to_string());
@@ -190,73 +352,63 @@ fn run(words: &[String]) -> Result<bool, String> {
     let count = |word: &String| if word == "all" { Ok(usize::MAX) } else { number(word).map(|count| count as usize) };
     let (of_mir_count, of_c_count) = (count(of_mir_count)?, count(of_c_count)?);
     let (seed, calls) = (number(seed)?, number(calls)?);
-    let trial = Trial { work: work.into(), header, names, link, seed, calls };
+    let mut trial = Trial { work: work.into(), header, names, link, seed, calls, fills: true, all: false };
     let text = read(program)?;
-    let unseen_text = read(unseen)?;
-    // Lines with nothing else are reasons; below each stand the changes that it holds for.
-    let mut reasons: BTreeMap<&str, &str> = BTreeMap::new();
-    let mut reason = "";
-    for line in unseen_text.lines() {
-        match line.split_once(" | ") {
-            Some(_) => drop(reasons.insert(line.trim(), reason)),
-            None => reason = line,
-        }
-    }
-    let mut wrong = 0;
-
-    for (title, old, new) in REFUSED {
-        match text.matches(old).count() {
-            0 => {
-                wrong += 1;
-                println!("not there to be changed: {title}");
-            }
-            _ => match trial.translated(&text.replacen(old, new, 1)) {
-                Ok(_) => {
-                    wrong += 1;
-                    println!("not refused: {title}");
-                }
-                Err(_) => {}
-            },
-        }
-    }
-    println!("{} edits that the translator must refuse", REFUSED.len());
+    let mut unseen = Unseen::read(&read(unseen)?);
+    let all_refused = all_refused(&trial, &text);
 
     let c = trial.translated(&text)?;
-    let unchanged = trial.compiled(&c).and_then(|mut mutant| trial.found(&mut mutant));
+    if trial.compiled(&c).is_none() {
+        println!("gcc is too old to fill locals that are not written: a store that is left out may be right by chance");
+        trial.fills = false;
+    }
+    let unchanged = trial.compiled(&c).and_then(|mut mutant| trial.found(&mut mutant, false));
     if unchanged != Some(false) {
         return Err("the unchanged program differs from the library, or can't be compiled".to_string());
     }
 
-    let mut of_program = Score::default();
-    let changes = of_mir(&text);
-    let all = changes.len();
-    for change in chosen(changes, of_mir_count, seed) {
-        let mutant = trial.translated(&change.applied(&text)).ok().and_then(|c| trial.compiled(&c));
-        let found = mutant.and_then(|mut mutant| trial.found(&mut mutant));
-        of_program.count(found, || in_mir(&text, &change), &reasons);
-    }
-    of_program.say("the program", all);
+    let (of_program, of_file) = (of_mir(&text), of_c(&c));
+    let there =
+        of_program.iter().map(|change| in_mir(&text, change)).chain(of_file.iter().map(|change| in_c(&c, change)));
+    let there: BTreeSet<String> = there.collect();
+    let all = of_mir_count >= of_program.len() && of_c_count >= of_file.len();
+    trial.all = all;
+    let (program_count, file_count) = (of_program.len(), of_file.len());
 
-    // Of the C file all changes are compiled together, and one is chosen when it runs; a few want a file of their own.
-    let mut of_file = Score::default();
-    let changes = of_c(&c);
-    let all = changes.len();
-    let changes = chosen(changes, of_c_count, seed);
-    let (together, others) = gathered(&c, &changes);
-    let Some(mut mutant) = trial.compiled(&together) else {
-        return Err("the C file with all changes in it can't be compiled".to_string());
-    };
-    for (number, change) in changes.iter().enumerate().filter(|(number, _)| !others.contains(number)) {
-        mutant.number = number + 1;
-        of_file.count(trial.found(&mut mutant), || in_c(&c, change), &reasons);
+    let in_program = chosen(of_program, of_mir_count, seed).into_iter().map(|change| {
+        let leads_to = match trial.translated(&change.applied(&text)) {
+            Err(_) => LeadsTo::Nothing,
+            // another field may not compile
+            Ok(changed) => match difference(&c, &changed).filter(|_| !change.new.contains("field")) {
+                Some(change) => LeadsTo::Change(change),
+                None => LeadsTo::File(changed),
+            },
+        };
+        Tried { name: in_mir(&text, &change), leads_to }
+    });
+    let in_program: Vec<Tried> = in_program.collect();
+    let tried = in_program.len();
+    try_all(&trial, &c, in_program, &mut unseen)?.say("the program", tried, program_count);
+
+    let in_file = chosen(of_file, of_c_count, seed).into_iter();
+    let in_file: Vec<Tried> =
+        in_file.map(|change| Tried { name: in_c(&c, &change), leads_to: LeadsTo::Change(change) }).collect();
+    let tried = in_file.len();
+    try_all(&trial, &c, in_file, &mut unseen)?.say("the C file", tried, file_count);
+
+    let stale = unseen.stale(&there, all);
+    for (what, name) in &stale {
+        println!("listed, and {what}: {name}");
     }
-    for change in others.iter().map(|number| &changes[*number]) {
-        let mutant = trial.compiled(&change.applied(&c));
-        of_file.count(mutant.and_then(|mut mutant| trial.found(&mut mutant)), || in_c(&c, change), &reasons);
+    let right = unseen.others.is_empty() && stale.is_empty();
+    if all {
+        let renewed = Path::new(work).join("unseen.txt");
+        fs::write(&renewed, unseen.renewed(&there)).map_err(|error| format!("the list can't be written: {error}"))?;
+        if !right {
+            println!("{} has the list as it would be now", renewed.display());
+        }
     }
-    of_file.say("the C file", all);
-    wrong += of_program.wrong + of_file.wrong;
-    Ok(wrong == 0)
+    Ok(all_refused && right)
 }
 
 fn main() -> ExitCode {

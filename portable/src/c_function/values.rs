@@ -220,13 +220,16 @@ impl CFunction<'_, '_> {
         !self.read.contains(&place.local)
     }
 
-    /// A store into what is never read is made, so that all of it is known, and then left out: C compilers warn of it.
+    /// A store into what is never read is made, so that all of it is known, and then left out: C compilers warn of it. So
+    /// is one that makes a table.
     pub(super) fn assign(&mut self, to: &Place, value: &Value) -> Answer<()> {
         let (lines, used) = (self.lines.len(), self.used.clone());
         self.assign_read(to, value)?;
-        if self.unread(to) {
+        if self.unread(to) || self.tables.hold(to.local) {
             self.lines.truncate(lines);
             self.used = used;
+        }
+        if self.unread(to) {
             self.say(format!("/* v{} is not read */", to.local));
         }
         Ok(())

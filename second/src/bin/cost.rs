@@ -5,6 +5,7 @@
 use std::io::BufRead;
 
 use second::node::{Node, TICK_OUTPUT};
+use second::receiver::Did;
 use second::reply::Reply;
 use second::settings::Asked as Settings;
 
@@ -241,15 +242,18 @@ fn run(work: Call, start: &Node, period: u64, rounds: u64, calls: u64) -> u32 {
         let payload = &payload[..asked.len];
         let lent = &mut output[..asked.room];
         let (mut reply, mut id, mut count) = (Reply::Done, 0, 0);
+        let (mut told, mut dropped, mut delivered) = (0, 0, 0);
         if i < calls {
             match call {
                 Call::Hear | Call::HearLast | Call::HearAbsent => {
                     let heard = node.hear(asked.number, asked.dlc, payload, lent);
                     (reply, count) = (heard.reply, heard.written);
+                    told = heard.did.map_or(0, Did::number);
                 }
                 Call::Tick => {
                     let ticked = node.tick(lent);
                     (reply, count) = (ticked.reply, ticked.written);
+                    (dropped, delivered) = (ticked.dropped, ticked.delivered);
                 }
                 Call::Request => reply = node.request(asked.number, payload),
                 Call::NextFrame => {
@@ -261,8 +265,11 @@ fn run(work: Call, start: &Node, period: u64, rounds: u64, calls: u64) -> u32 {
             }
         }
         let h = (random / 65_536) as usize;
-        for x in [reply.number() as u32, id, count as u32, output[h % 16].into(), output[h % 512].into()] {
-            sum = mixed(sum, x);
+        for x in [reply.number(), id as usize, count, told, dropped, delivered] {
+            sum = mixed(sum, x as u32);
+        }
+        for x in [output[h % 16], output[h % 512]] {
+            sum = mixed(sum, x.into());
         }
     }
     ended(node, sum)

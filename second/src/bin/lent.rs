@@ -6,6 +6,7 @@ use std::process::ExitCode;
 
 use second::lent::{LAYOUT, MUTANTS};
 use second::lent_lines::compare;
+use second::reply::Reply;
 
 fn main() -> ExitCode {
     let mut text = String::new();
@@ -22,7 +23,14 @@ fn main() -> ExitCode {
                 seen.lines, seen.whole, seen.in_part, seen.replies
             );
             part(seen.lines > 0 && seen.whole > seen.in_part);
-            part(seen.replies.iter().all(|count| *count > 0));
+            // BadFrame is split's alone.
+            let given = |reply: &Reply| seen.replies[reply.place()] > 0;
+            part(Reply::ALL.iter().all(|reply| given(reply) == (*reply != Reply::BadFrame)));
+            println!("{}  ticks that dropped {}, and that delivered {}", seen.deeds, seen.dropping, seen.delivering);
+            let missing = seen.deeds.missing();
+            missing.iter().for_each(|deed| println!("{deed}"));
+            part(missing.is_empty());
+            part(seen.dropping > 0 && seen.delivering > 0);
         }
         Err(differs) => {
             println!("{differs}");

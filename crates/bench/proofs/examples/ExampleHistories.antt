@@ -2,7 +2,6 @@
 use mathlib.Core.Bool.{Bool, true}
 use Rattle.wire.specs.Identifiers.{join}
 use Rattle.wire.specs.Classes.{carries}
-use Rattle.wire.specs.Frames.{badFrame}
 use Rattle.wire.specs.Settings.{legal}
 use Rattle.wire.specs.Delivered.{recordOf}
 use Rattle.node.specs.Slots.{sameBytes, first, onFirst, some}
@@ -18,7 +17,7 @@ use Rattle.bench.specs.Rules.{may}
 -- `unfolding computing` opens every definition that a history computes with
 unfoldable pub computing : Bool
 unfolding
-    legal badFrame carries recordOf sameBytes first onFirst some setting-up.setUp setting-up.inPlace setting-up.lessFree
+    legal carries recordOf sameBytes first onFirst some setting-up.setUp setting-up.inPlace setting-up.lessFree
     hearing.heardBy hearing.deliveredAtOnce hearing.hear
     ticking.late ticking.due ticking.holdOver ticking.lapsed ticking.dueSlots ticking.recordsFrom ticking.tick
     requesting.requested requesting.request

@@ -14,7 +14,8 @@ use Rattle.wire.specs.declared.ids.BusId.{BusId}
 use Rattle.node.specs.declared.slots.Slot.{Slot}
 use Rattle.node.specs.declared.Node.{Node}
 use Rattle.wire.specs.Classes.{carries}
-use Rattle.wire.specs.Frames.{badFrame}
+use Rattle.wire.specs.Frames.{isBare}
+use Rattle.wire.proofs.Frames.{IsFrame}
 use Rattle.wire.specs.Identifiers.{maxStream, maxBusId, streamOf, codeOf, join}
 use Rattle.wire.specs.Settings.{receives, sends, isPlain}
 use Rattle.node.specs.Calls.{hear, tick, request, nextFrame, outcome}
@@ -123,7 +124,7 @@ pub taken-facts : (id : BusId) (p : List ℕ) (x : Slot) → takes id (length p)
 taken-facts id p x t = takes-says id (length p) p lent x (omega arith) t
 
 -- a receiver takes a good frame that its class carries, unless the frame clashes
-pub taken-unless-clash : (id : BusId) (p : List ℕ) (x : Slot) → badFrame id (length p) (length p) ≡ false → isReceiver x ≡ true
+pub taken-unless-clash : (id : BusId) (p : List ℕ) (x : Slot) → IsFrame (isBare id) id (length p) (length p) → isReceiver x ≡ true
     → carries (x .settings .class) (codeOf id) ≡ true → takes id (length p) p x ≡ not (clashes (codeOf id) p x)
 taken-unless-clash id p x good own fits = go (clashes (codeOf id) p x) refl
   where

@@ -9,7 +9,8 @@ use lib.Dec.{T, eqb, ltb}
 use Rattle.wire.specs.declared.ids.Stream.{Stream}
 use Rattle.wire.specs.declared.settings.Settings.{Settings}
 use Rattle.wire.specs.Classes as wire
-use Rattle.wire.specs.Frames.{maxPayload, badFrame}
+use Rattle.wire.specs.Frames.{maxPayload, isBare}
+use Rattle.wire.proofs.Frames.{IsFrame}
 use Rattle.wire.specs.Identifiers.{idOf, maxStream}
 use Rattle.wire.specs.Settings.{legal}
 use Rattle.node.specs.declared.slots.Slot.{Slot}
@@ -65,10 +66,10 @@ pub record ClassOnBench (n : ℕ) (D : OS.Delays) : Type 1 where
   -- what the class sees held in a receive slot; where nothing is, it is idle
   pub held : Slot → C .Slot
   pub idle : (x : Slot) → x .message .held ≡ false → held x ≡ C .idle
-  -- its frames have the codes 0 to 2, and one of code 2 is not refused as a bad frame
+  -- its frames have the codes 0 to 2, and one of code 2 passes the frame test
   pub carries : (code : ℕ) → code ≤ 2 → wire.carries n code ≡ true
   pub good : (s : Stream) → s .0 ≤ maxStream → (p : List ℕ) → length p ≤ maxPayload
-      → badFrame (idOf s 2) (length (C .carried p)) (length (C .carried p)) ≡ false
+      → IsFrame (isBare (idOf s 2)) (idOf s 2) (length (C .carried p)) (length (C .carried p))
   -- data, a confirmation, a frame of code 2 is heard
   pub onData : (now : ℕ) (x : Slot) → Receiving n D now x → (p : List ℕ)
       → Becomes C held x (C .onData now p (held x)) false (cond (not (clashes 0 p x)) (heardBy now 0 p x) x)

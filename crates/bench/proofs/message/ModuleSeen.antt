@@ -8,13 +8,15 @@ use mathlib.Core.List.{List, [], _∷_, map}
 use lib.ListN.{length}
 use lib.Dec.{T, eqb, eqb→eq}
 use Rattle.wire.specs.declared.ids.Stream.{Stream}
+use Rattle.wire.specs.declared.ids.BusId.{BusId}
 use Rattle.wire.specs.declared.settings.Settings.{Settings}
 use Rattle.node.specs.declared.slots.Slot.{Slot}
 use Rattle.node.specs.declared.Node.{Node}
 use Rattle.wire.specs.Classes.{carries}
-use Rattle.wire.specs.Frames.{maxPayload, badFrame}
+use Rattle.wire.specs.Frames.{maxPayload, isBare}
 use Rattle.wire.specs.Identifiers.{idOf, streamOf, codeOf, maxStream}
 use Rattle.wire.specs.Settings.{receives, isPlain}
+use Rattle.wire.specs.Tells.{equal, _or_}
 use Rattle.node.specs.Clock.{unbounded}
 use Rattle.node.specs.Hear.{clashes, heardBy}
 use Rattle.node.specs.NextFrame.{payloadFor}
@@ -22,7 +24,7 @@ use Rattle.node.specs.Nodes.{slotOf}
 use Rattle.node.specs.Reachable.{Kept}
 use Rattle.node.specs.Slots.{isReceiver}
 use Rattle.node.specs.Tick.{holdOver, lapsed, tickSlot}
-use Rattle.wire.proofs.Frames.{own-frame}
+use Rattle.wire.proofs.Frames.{IsFrame, own-frame}
 use Rattle.node.proofs.slots.Streams.{Kind, kindOf}
 use Rattle.one_stream.proofs.Truth.{is-true, is-false, so, not-so}
 use Rattle.bench.specs.Bench.{Module, Frame, Delivery}
@@ -123,11 +125,15 @@ stream-id s c h = same-stream (omega arith)
 pub code-id : (s : Stream) (c : ℕ) → c ≤ 3 → codeOf (idOf s c) ≡ c
 code-id s c h = omega arith
 
+-- what comes bare is no data
+bare-code : (id : BusId) (c : ℕ) → codeOf id ≡ c → isBare id ≡ true → 1 ≤ c
+bare-code id c e t = ⊎-elim (λ h. omega arith) (λ h. omega arith) ((equal (codeOf id) 1 or equal (codeOf id) 2) .says t)
+
 -- data of at most eight bytes, or an empty frame
 pub good-frame : (s : Stream) (c : ℕ) (b : List ℕ) → s .0 ≤ maxStream → c ≤ 2 → length b ≤ maxPayload → (1 ≤ c → length b ≡ 0)
-    → badFrame (idOf s c) (length b) (length b) ≡ false
+    → IsFrame (isBare (idOf s c)) (idOf s c) (length b) (length b)
 good-frame s c b small code short bare =
-    own-frame (idOf s c) (length b) (omega arith) short (⊎-elim (λ e. bare (omega arith)) (λ e. bare (omega arith)))
+    own-frame (isBare (idOf s c)) (idOf s c) (length b) (omega arith) short (λ t. bare (bare-code (idOf s c) c (code-id s c (omega arith)) t))
 
 -- ── the node of a module ──
 module _ {n : ℕ} {D : OS.Delays} (K : ClassOnBench n D) (s : Stream) (node : Node) (k : Kept node)
@@ -139,7 +145,7 @@ module _ {n : ℕ} {D : OS.Delays} (K : ClassOnBench n D) (s : Stream) (node : N
   receiving r = record { receiver = r; settings = of r; kept = slot-kept s node k }
 
   -- a receiver hears a good frame that does not clash
-  heard-slot : (c : ℕ) → c ≤ 2 → (b : List ℕ) → badFrame (idOf s c) (length b) (length b) ≡ false → T (isReceiver x)
+  heard-slot : (c : ℕ) → c ≤ 2 → (b : List ℕ) → IsFrame (isBare (idOf s c)) (idOf s c) (length b) (length b) → T (isReceiver x)
       → slotOf s (hearing (idOf s c) b node .node) ≡ cond (not (clashes c b x)) (heardBy (node .counter) c b x) x
   heard-slot c code b good r =
       let id = idOf s c in
@@ -154,7 +160,7 @@ module _ {n : ℕ} {D : OS.Delays} (K : ClassOnBench n D) (s : Stream) (node : N
           subst (λ d. carries (x .settings .class) d ≡ true) (sym (code-id s c (omega arith)))
           (subst (λ m. carries m c ≡ true) (sym (eqb→eq (x .settings .class) n (of r .class))) (K .carries c code))
 
-  heard-becomes : (c : ℕ) → c ≤ 2 → (b : List ℕ) → badFrame (idOf s c) (length b) (length b) ≡ false → T (isReceiver x)
+  heard-becomes : (c : ℕ) → c ≤ 2 → (b : List ℕ) → IsFrame (isBare (idOf s c)) (idOf s c) (length b) (length b) → T (isReceiver x)
       → {h : K .C .Slot} {caused : Bool} → Becomes (K .C) (K .held) x h caused (cond (not (clashes c b x)) (heardBy (node .counter) c b x) x)
       → Becomes (K .C) (K .held) x h caused (slotOf s (hearing (idOf s c) b node .node))
   heard-becomes c code b good r {h} {caused} becomes =

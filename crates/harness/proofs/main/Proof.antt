@@ -4,10 +4,10 @@ use Rattle.harness.proofs.main.Statement.{statement}
 use Rattle.harness.proofs.main.Tie as tie
 
 abbrev Inv-loop : tie.InvT-loop
-Inv-loop buf₀ out₀ input₀ comment₀ state₀ frames₀ to₀ turns₀ buf out input comment state frames to turns = Unit {0}
+Inv-loop buf₀ out₀ input₀ comment₀ nodes₀ outs₀ state₀ frames₀ to₀ turns₀ buf out input comment nodes outs state frames to turns = Unit {0}
 
 abbrev μ-loop : tie.MeasureT-loop
-μ-loop buf₀ out₀ input₀ comment₀ state₀ frames₀ to₀ turns₀ buf out input comment state frames to turns = turns
+μ-loop buf₀ out₀ input₀ comment₀ nodes₀ outs₀ state₀ frames₀ to₀ turns₀ buf out input comment nodes outs state frames to turns = turns
 
 pub main-spec : {M : Type 1} → statement M
 main-spec =

@@ -1,7 +1,6 @@
 -- Every reply of every call is given, by every clock.
 use mathlib.Core.Path.{refl}
 use Rattle.wire.specs.Settings.{legal}
-use Rattle.wire.specs.Frames.{badFrame}
 use Rattle.wire.specs.Identifiers.{join}
 use Rattle.wire.specs.Classes.{carries}
 use Rattle.node.specs.Slots.{sameBytes, first, onFirst, some}
@@ -14,7 +13,7 @@ use Rattle.node.specs.NextFrame.{give, nextFrame}
 use Rattle.node.specs.Refused.{RepliesGiven}
 
 pub replies-given : (clock : Clock) → RepliesGiven clock
-unfolding setUp lessFree inPlace hear heardBy tick request requested nextFrame join give legal badFrame carries sameBytes first onFirst some
+unfolding setUp lessFree inPlace hear heardBy tick request requested nextFrame join give legal carries sameBytes first onFirst some
 replies-given clock =
     record {
       setUp = λ s settings n. record { given = refl; every = refl };

@@ -1,36 +1,41 @@
 -- DLC 8 to 15 are one to a node: the frame test alone looks at the DLC, and what is held is as long as the payload.
 use mathlib.Core.Path.{_≡_, refl, sym, ap, subst, _∙_}
 use mathlib.Core.Bool.{Bool, true, false, not, _&&_, and-eq-true-iff}
-use mathlib.Core.List.{List, [], _∷_}
+use mathlib.Core.List.{List, [], _∷_, _++_}
 use Prim.Native.Nat.{ℕ, _≤_}
 use lib.ListN.{length, drop, replicate}
 use lib.Seq.{take-append-seam}
-use lib.Dec.{eqb}
+use lib.Dec.{eqb, ltb}
 use borrow.Author.Tests.{eqb-true, eq-eqb, not-false}
 use Rattle.wire.specs.declared.ids.BusId.{BusId}
 use Rattle.wire.specs.declared.reply.Reply.{Reply}
-use Rattle.wire.specs.declared.reply.Reply.the-variants.{Done}
+use Rattle.wire.specs.declared.reply.Reply.the-variants.{Done, ShortOutput}
 use Rattle.wire.specs.Replies.{numberOf}
+use Rattle.wire.specs.Refusals.{Refusals}
 use Rattle.wire.specs.Identifiers.{streamOf, codeOf}
 use Rattle.wire.specs.Settings.{receives}
 use Rattle.wire.specs.Classes.{carries}
-use Rattle.wire.specs.Frames.{maxPayload, maxDlc, bytesOfDlc}
+use Rattle.wire.specs.Frames.{maxPayload, maxDlc, bytesOfDlc, isBare}
 use Rattle.node.specs.declared.slots.Slot.{Slot}
 use Rattle.node.specs.declared.Node.{Node}
 use Rattle.node.specs.Slots.{holding, restamped, sameBytes, same, withMessage}
-use Rattle.node.specs.Nodes.{slotOf, Outcome}
-use Rattle.node.specs.Hear.{clashes, heardBy, hear}
+use Rattle.node.specs.Nodes.{slotOf, Outcome, unlessRefused}
+use Rattle.node.specs.Hear.{hearRoom, clashes, heardBy, slotHearRefusals, hear}
 use Rattle.node.specs.EqualDlcs.{HeardAlike, HeldAsMeant, Duplicate, HeardAgain}
-use Rattle.wire.proofs.Frames.{frame-bounds, equal-dlcs}
+use Rattle.wire.proofs.Frames.{equal-dlcs, equal-frames}
 use Rattle.node.proofs.Choices.{contrary}
 use Rattle.node.proofs.Cases.{by-case}
-use Rattle.node.proofs.hear.Cases.{HearFacts, hear-cases}
+use Rattle.node.proofs.hear.Cases.{HearFacts, heard, hear-cases}
 use Rattle.node.proofs.slots.Streams.{Kind, kindOf, heard-keeps, slot-of-changed}
 use Rattle.node.proofs.EarlierErrors.{duplicate-restamps}
 
 pub heard-alike : HeardAlike
 unfolding hear
-heard-alike id dlc other payload output n low low-too e = rw (equal-dlcs id dlc other (length payload) low low-too e)
+heard-alike id dlc other payload output n low low-too e =
+    ap (λ (tests : Refusals).
+    unlessRefused n ((ShortOutput, ltb (length output) hearRoom) ∷ tests ++ slotHearRefusals (codeOf id) payload (slotOf (streamOf id) n))
+    (heard id dlc payload output n))
+    (equal-dlcs (isBare id) id dlc other (length payload) low low-too e)
 
 same-self : (b : List ℕ) → sameBytes b b ≡ true
 unfolding sameBytes
@@ -80,7 +85,7 @@ module _ (id : BusId) (dlc : ℕ) (payload output : List ℕ) (n : Node) (is-dat
       go false free = rw free (refl, new)
 
   as-meant : length payload ≡ bytesOfDlc dlc
-  as-meant = frame-bounds id dlc (length payload) (facts .good) .exact
+  as-meant = facts .good .exact
 
   pub held-length : y .message .len ≡ bytesOfDlc dlc
   held-length = eqb-true (y .message .len) (length payload) (and-eq-true-iff (eqb (y .message .len) (length payload)) _ .0 (holds .1) .0) ∙ as-meant
@@ -94,9 +99,7 @@ module _ (id : BusId) (dlc : ℕ) (payload output : List ℕ) (n : Node) (is-dat
     facts-again =
         record {
           room = facts .room;
-          good =
-              sym (equal-dlcs id dlc other (length payload) (frame-bounds id dlc (length payload) (facts .good) .low-dlc) low equal)
-              ∙ facts .good;
+          good = equal-frames (isBare id) id dlc other (length payload) (facts .good) low equal;
           own = ap (λ (k : Kind). k .used && receives (k .settings)) kind ∙ facts .own;
           fits = ap (λ (k : Kind). carries (k .settings .class) (codeOf id)) kind ∙ facts .fits;
           agrees = rw (is-data, holds .0, holds .1);

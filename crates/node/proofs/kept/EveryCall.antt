@@ -8,11 +8,13 @@ use Rattle.wire.specs.declared.ids.Stream.{Stream}
 use Rattle.wire.specs.declared.ids.BusId.{BusId}
 use Rattle.wire.specs.declared.settings.Settings.{Settings}
 use Rattle.wire.specs.Identifiers.{streamOf, codeOf}
+use Rattle.wire.specs.Frames.{isBare}
 use Rattle.wire.proofs.Frames.{frame-length}
+use Rattle.wire.specs.Refusals.{Refusals}
 use Rattle.node.specs.declared.slots.Slot.{Slot}
 use Rattle.node.specs.declared.Node.{Node}
 use Rattle.node.specs.Slots.{slotFor, empty, isOf, first, onFirst}
-use Rattle.node.specs.Nodes.{fresh, slotCount, slotOf, withSlots, Outcome, Refusals}
+use Rattle.node.specs.Nodes.{fresh, slotCount, slotOf, withSlots, Outcome}
 use Rattle.node.specs.Clock.{unbounded}
 use Rattle.node.specs.SetUp.{setUp}
 use Rattle.node.specs.Hear.{hear, heardBy}
@@ -69,7 +71,7 @@ module _ (n : Node) (k : Kept n) where
       kept-unless (hear-cases id dlc payload output n .case) λ h.
       on-first-keeps (isOf (streamOf id)) (heardBy (n .counter) (codeOf id) payload) (heard-keeps (n .counter) (codeOf id) payload)
       (λ here kx.
-      kept-heard (n .counter) (slotOf (streamOf id) n) kx (codeOf id) payload (h .own) (h .fits) (frame-length id dlc (length payload) (h .good)))
+      kept-heard (n .counter) (slotOf (streamOf id) n) kx (codeOf id) payload (h .own) (h .fits) (frame-length (isBare id) id dlc (length payload) (h .good)))
 
   tick-keeps : (output : List ℕ) → Kept (tick unbounded output n .node)
   tick-keeps output =

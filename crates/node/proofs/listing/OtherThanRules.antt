@@ -8,10 +8,11 @@ use Rattle.wire.specs.declared.reply.Reply.the-variants.{Misfit, Clash, Nothing
 use Rattle.wire.specs.Identifiers.{join}
 use Rattle.wire.specs.Classes.{carries}
 use Rattle.wire.specs.Delivered.{recordOf}
-use Rattle.wire.specs.Frames.{badFrame}
 use Rattle.wire.specs.Settings.{ofPlain, legal}
 use Rattle.node.specs.Slots.{holding, sameBytes, first, onFirst, some}
-use Rattle.node.specs.Nodes.{slotOf, refused, done}
+use Rattle.node.specs.declared.told.Told.the-variants.{Delivered}
+use Rattle.node.specs.Told.{toldBy, ofFrame}
+use Rattle.node.specs.Nodes.{slotOf, refused, done, telling}
 use Rattle.node.specs.Clock.{rolled}
 use Rattle.node.specs.SetUp.{lessFree, inPlace, setUp}
 use Rattle.node.specs.Hear.{hear, heardBy, deliveredAtOnce, hearRoom}
@@ -44,7 +45,7 @@ other-data : Call
 other-data = Call.hear (record { 0 = 20 }) 1 (12 ∷ []) (replicate hearRoom 0)
 
 paper-refuses : outcome rolled other-data (after rolled (with-five (data₅ ∷ []))) ≡ refused (after rolled (with-five (data₅ ∷ []))) Clash
-unfolding other-data setUp lessFree inPlace hear heardBy deliveredAtOnce carries badFrame legal sameBytes first onFirst some
+unfolding other-data setUp lessFree inPlace hear heardBy deliveredAtOnce carries legal sameBytes first onFirst some
 paper-refuses = refl
 
 -- ── what was delivered ──
@@ -57,7 +58,7 @@ listing-never-delivers now = refl
 
 -- in the rules paper it leaves the table, and the next message is a new one
 paper-takes-out : slotOf five (after rolled (with-five (data₅ ∷ ticks 3 ++ confirmation₅ ∷ ticks 4 ++ data₅ ∷ []))) .message ≡ holding 7 bytes
-unfolding setUp lessFree inPlace hear heardBy tick late due holdOver lapsed carries badFrame legal sameBytes first onFirst some
+unfolding setUp lessFree inPlace hear heardBy tick late due holdOver lapsed carries legal sameBytes first onFirst some
 paper-takes-out = refl
 
 -- ── an abort caused twice ──
@@ -69,7 +70,7 @@ listing-aborts-again = (refl, refl)
 -- in the rules paper one frame is pending, and then none
 paper-aborts-once : (outcome rolled next (after rolled (with-five (confirmation₅ ∷ confirmation₅ ∷ []))) .id ≡ record { 0 = 22 })
     × (outcome rolled next (after rolled (with-five (confirmation₅ ∷ confirmation₅ ∷ next ∷ []))) .reply ≡ Nothing)
-unfolding setUp lessFree inPlace hear heardBy nextFrame join give givenOut carries badFrame legal first onFirst some
+unfolding setUp lessFree inPlace hear heardBy nextFrame join give givenOut carries legal first onFirst some
 paper-aborts-once = (refl, refl)
 
 -- ── an unreliable message ──
@@ -85,11 +86,12 @@ plain-five = Call.setUp five (ofPlain receiver) ∷ []
 plain-data : Call
 plain-data = Call.hear (record { 0 = 23 }) 2 bytes (replicate hearRoom 0)
 
-paper-keeps-nothing : outcome rolled plain-data (after rolled plain-five) ≡ done (after rolled plain-five) (recordOf five bytes)
-unfolding plain-five plain-data setUp lessFree inPlace hear heardBy deliveredAtOnce carries badFrame legal first onFirst some
+paper-keeps-nothing : outcome rolled plain-data (after rolled plain-five)
+    ≡ telling (ofFrame Delivered) (done (after rolled plain-five) (recordOf five bytes))
+unfolding plain-five plain-data setUp lessFree inPlace hear heardBy toldBy deliveredAtOnce carries legal first onFirst some
 paper-keeps-nothing = refl
 
 -- and only streams of class plain carry it
 paper-refuses-unreliable : outcome rolled plain-data (after rolled (with-five [])) ≡ refused (after rolled (with-five [])) Misfit
-unfolding plain-data setUp lessFree inPlace hear carries badFrame legal first onFirst some
+unfolding plain-data setUp lessFree inPlace hear carries legal first onFirst some
 paper-refuses-unreliable = refl

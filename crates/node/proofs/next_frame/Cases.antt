@@ -5,10 +5,11 @@ use mathlib.Core.List.{List}
 use Prim.Native.Nat.{ℕ, _≤_}
 use borrow.Author.Tests.{ltb-false, le-ltb, not-false}
 use lib.ListN.{length}
+use Rattle.wire.proofs.Refusing.{Passes}
 use Rattle.node.specs.declared.Node.{Node}
 use Rattle.node.specs.Slots.{some}
 use Rattle.node.specs.NextFrame.{nextRoom, hasFrame, give, nextRefusals, nextFrame}
-use Rattle.node.proofs.Cases.{Passes, Cases, cases}
+use Rattle.node.proofs.Cases.{Cases, cases}
 
 module _ (output : List ℕ) (n : Node) where
   pub record NextFacts : Type 0 where

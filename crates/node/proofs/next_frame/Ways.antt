@@ -13,14 +13,15 @@ use Rattle.wire.specs.Identifiers.{join}
 use Rattle.wire.specs.Frames.{maxPayload}
 use Rattle.wire.specs.Delivered.{over, fitting}
 use Rattle.wire.proofs.Records.{does-fit}
+use Rattle.wire.proofs.Refusing.{Refuses, here, later}
 use Rattle.node.specs.declared.slots.Slot.{Slot}
 use Rattle.node.specs.declared.Node.{Node}
 use Rattle.node.specs.declared.Given.{Given}
 use Rattle.node.specs.Slots.{first, some}
+use Rattle.node.specs.Told.{silent}
 use Rattle.node.specs.Nodes.{withSlots, Outcome, refused, asGiven}
 use Rattle.node.specs.NextFrame.{nextRoom, lowestCode, hasFrame, lowestGiven, givenOut, payloadFor, give, nextRefusals, nextFrame}
 use Rattle.node.specs.Calls.{Call}
-use Rattle.node.proofs.Cases.{Refuses, here, later}
 use Rattle.node.proofs.next_frame.Cases.{next-cases}
 use Rattle.node.proofs.rollover.Promises.{PromisedWritten, promised-written}
 use Rattle.node.proofs.slots.Finding.{indexOf, found, missed}
@@ -61,6 +62,7 @@ module _ (output : List ℕ) (n : Node) where
             reply = Done;
             id = joined .id;
             bytes = payloadFor code here-found;
+            report = silent;
           }) (nextFrame output n)
       unfolding give
       frame x joined id made =

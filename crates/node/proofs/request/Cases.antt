@@ -8,12 +8,13 @@ use lib.ListN.{length}
 use lib.Dec.{ltb}
 use Rattle.wire.specs.declared.ids.Stream.{Stream}
 use Rattle.wire.specs.Frames.{maxPayload}
+use Rattle.wire.proofs.Refusing.{Passes}
 use Rattle.node.specs.declared.slots.Slot.{Slot}
 use Rattle.node.specs.declared.Node.{Node}
 use Rattle.node.specs.Slots.{isSender}
 use Rattle.node.specs.Nodes.{slotOf, onSlot, Outcome, done}
 use Rattle.node.specs.Request.{busy, requested, requestRefusals, request}
-use Rattle.node.proofs.Cases.{Passes, Cases, cases}
+use Rattle.node.proofs.Cases.{Cases, cases}
 
 module _ (payload : List ℕ) where
   pub record RequestFacts (x : Slot) : Type 0 where

@@ -12,13 +12,14 @@ use Rattle.wire.specs.declared.ids.Stream.{Stream}
 use Rattle.wire.specs.declared.reply.Reply.{Reply}
 use Rattle.wire.specs.declared.reply.Reply.the-variants.{BadLength, NotSender}
 use Rattle.wire.specs.Replies.{numberOf}
+use Rattle.wire.specs.Refusals.{replyOf}
+use Rattle.wire.proofs.Refusing.{Refuses, here, later, reply-refuses, reply-passes}
 use Rattle.node.specs.declared.slots.Slot.{Slot}
 use Rattle.node.specs.declared.Node.{Node}
 use Rattle.node.specs.Slots.{empty, isOf}
-use Rattle.node.specs.Nodes.{slotOf, withSlots, Outcome, refused, replyOf, done, asAnswered}
+use Rattle.node.specs.Nodes.{slotOf, withSlots, Outcome, refused, done, asAnswered}
 use Rattle.node.specs.Request.{requested, slotRequestRefusals, requestRefusals, request}
 use Rattle.node.specs.Calls.{Call}
-use Rattle.node.proofs.Cases.{Refuses, here, later, reply-refuses, reply-passes}
 use Rattle.node.proofs.request.Cases.{request-facts, request-cases}
 use Rattle.node.proofs.slots.Finding.{indexOf, slot-found, slot-stored, slot-missed}
 use Rattle.node.proofs.rollover.Promises.{Promised, promised}

@@ -10,11 +10,13 @@ use Rattle.wire.specs.declared.ids.BusId.{BusId}
 use Rattle.wire.specs.declared.settings.Settings.{Settings}
 use Rattle.wire.specs.Identifiers.{streamOf, codeOf}
 use Rattle.wire.specs.Settings.{sends, isPlain, isTwoMessage, maxDataReach, maxDeliverDelay}
+use Rattle.wire.specs.Refusals.{Refusals}
 use Rattle.node.specs.declared.slots.Message.{Message}
 use Rattle.node.specs.declared.slots.Slot.{Slot}
 use Rattle.node.specs.declared.Node.{Node}
-use Rattle.node.specs.Slots.{restamped, toSend, slotFor, isOf, isFree, isReceiver, isSender, withParts, withMessage}
-use Rattle.node.specs.Nodes.{fresh, slotOf, onSlot, Outcome, Refusals, unlessRefused, done}
+use Rattle.node.specs.Slots.{restamped, toSend, slotFor, isOf, isFree, isReceiver, isSender, withParts, withMessage, many}
+use Rattle.node.specs.Nodes.{fresh, slotOf, onSlot, Outcome, unlessRefused, done, telling}
+use Rattle.node.specs.Told.{toldBy, ofFrame}
 use Rattle.node.specs.Clock.{period, unbounded, rolled}
 use Rattle.node.specs.SetUp.{setUpRefusals, lessFree, inPlace, setUp}
 use Rattle.node.specs.Hear.{heardBy, deliveredAtOnce, hearRefusals, hear}
@@ -81,11 +83,12 @@ heard-rolls now code payload x =
 
 hear-rolls : (id : BusId) (dlc : ℕ) (payload output : List ℕ) (u : Node)
     → rollOutcome (hear id dlc payload output u) ≡ hear id dlc payload output (roll u)
-unfolding hear
+unfolding hear toldBy
 hear-rolls id dlc payload output u =
     rw (slot-rolls (streamOf id) u)
     (unless-refused-rolls u (hearRefusals id dlc payload output (slotOf (streamOf id) u)) _ _
-    (ap (λ (n : Node). done n (deliveredAtOnce id payload)) (on-slot-rolls (streamOf id) _ _ (heard-rolls (u .counter) (codeOf id) payload) u)))
+    (ap (λ (n : Node). telling (ofFrame (toldBy (codeOf id) (slotOf (streamOf id) u))) (done n (deliveredAtOnce id payload)))
+    (on-slot-rolls (streamOf id) _ _ (heard-rolls (u .counter) (codeOf id) payload) u)))
 
 -- ── requesting ──
 requested-rolls : (now : ℕ) (payload : List ℕ) (x : Slot)
@@ -132,13 +135,21 @@ idle : (r h : Bool) → h ≡ false → (r && h) ≡ false
 idle true h e = e
 idle false h e = refl
 
-ageless : (a b : ℕ) (x : Slot) → x .message .held ≡ false → (lapsed a x ≡ lapsed b x) × (due a x ≡ due b x)
+-- what a tick asks of a slot says the same of two ages
+pub record Agree (a b : ℕ) (x : Slot) : Type 0 where
+  pub lapsing : lapsed a x ≡ lapsed b x
+  pub lateness : late a x ≡ late b x
+  pub being-due : due a x ≡ due b x
+
+ageless : (a b : ℕ) (x : Slot) → x .message .held ≡ false → Agree a b x
 unfolding lapsed late due holdOver
-ageless a b x e = rw (idle (isReceiver x) (x .message .held) e, idle (isSender x) (x .message .held) e) (refl, refl)
+ageless a b x e =
+    let unheld = idle (isReceiver x) (x .message .held) e in
+    record { lapsing = rw (unheld, idle (isSender x) (x .message .held) e); lateness = rw unheld; being-due = rw unheld }
 
 same-age : (a b : ℕ) (x : Slot) (h : Bool) → x .message .held ≡ h → (x .message .held ≡ true → a ≡ b)
-    → (lapsed a x ≡ lapsed b x) × (due a x ≡ due b x)
-same-age a b x true e k = rw (k e) (refl, refl)
+    → Agree a b x
+same-age a b x true e k = rw (k e) (record { lapsing = refl; lateness = refl; being-due = refl })
 same-age a b x false e k = ageless a b x e
 
 lapsed-rolls : (age : ℕ) (x : Slot) → rollSlot (lapsed age x) ≡ lapsed age (rollSlot x)
@@ -152,11 +163,18 @@ due-rolls : (age : ℕ) (x : Slot) → due age (rollSlot x) ≡ due age x
 unfolding due
 due-rolls age x = refl
 
+late-rolls : (age : ℕ) (x : Slot) → late age (rollSlot x) ≡ late age x
+unfolding late
+late-rolls age x = refl
+
 module _ (now : ℕ) where
+  agree : (x : Slot) → Counted now x → Agree (ageOf unbounded now x) (ageOf rolled (now % period) (rollSlot x)) (rollSlot x)
+  agree x k = same-age _ _ (rollSlot x) _ refl (λ h. age-rolls now (x .message .stamp) (k h .0) (k h .1))
+
   tick-slot-rolls : (x : Slot) → Counted now x → rollSlot (tickSlot unbounded now x) ≡ tickSlot rolled (now % period) (rollSlot x)
   tick-slot-rolls x k =
       lapsed-rolls (ageOf unbounded now x) x
-      ∙ same-age _ _ (rollSlot x) _ refl (λ h. age-rolls now (x .message .stamp) (k h .0) (k h .1)) .0
+      ∙ agree x k .lapsing
 
   slots-roll : (xs : List Slot) → All (Counted now) xs
       → map rollSlot (map (tickSlot unbounded now) xs) ≡ map (tickSlot rolled (now % period)) (map rollSlot xs)
@@ -165,8 +183,17 @@ module _ (now : ℕ) where
 
   due-slot-rolls : (x : Slot) → Counted now x → due (ageOf unbounded now x) x ≡ due (ageOf rolled (now % period) (rollSlot x)) (rollSlot x)
   due-slot-rolls x k =
-      sym (due-rolls (ageOf unbounded now x) x)
-      ∙ same-age _ _ (rollSlot x) _ refl (λ h. age-rolls now (x .message .stamp) (k h .0) (k h .1)) .1
+      sym (due-rolls (ageOf unbounded now x) x) ∙ agree x k .being-due
+
+  late-slot-rolls : (x : Slot) → Counted now x → late (ageOf unbounded now x) x ≡ late (ageOf rolled (now % period) (rollSlot x)) (rollSlot x)
+  late-slot-rolls x k = sym (late-rolls (ageOf unbounded now x) x) ∙ agree x k .lateness
+
+  -- as many slots
+  many-roll : (test by-rolled : Slot → Bool) → ((x : Slot) → Counted now x → test x ≡ by-rolled (rollSlot x))
+      → (xs : List Slot) → All (Counted now) xs → many test xs ≡ many by-rolled (map rollSlot xs)
+  unfolding many
+  many-roll test by-rolled same [] ks = refl
+  many-roll test by-rolled same (x ∷ xs) ks = rw (same x (ks .0), many-roll test by-rolled same xs (ks .1))
 
 due-slots-roll : (now : ℕ) (xs : List Slot) → All (Counted now) xs
     → map rollSlot (dueSlots unbounded now xs) ≡ dueSlots rolled (now % period) (map rollSlot xs)
@@ -191,6 +218,8 @@ tick-rolls output u ks =
       ← (slots-roll now (u .slots) ks),
       ← (due-slots-roll now (u .slots) ks),
       records-roll (dueSlots unbounded now (u .slots)),
+      ← (many-roll now _ (λ x. late (ageOf rolled (now % period) x) x) (late-slot-rolls now) (u .slots) ks),
+      ← (many-roll now _ (λ x. due (ageOf rolled (now % period) x) x) (due-slot-rolls now) (u .slots) ks),
     )
     (unless-refused-rolls u (tickRefusals output) _ _ refl)
 

@@ -6,11 +6,12 @@ use borrow.Author.Tests.{not-false}
 use Rattle.wire.specs.declared.ids.Stream.{Stream}
 use Rattle.wire.specs.declared.settings.Settings.{Settings}
 use Rattle.wire.specs.Settings.{legal}
+use Rattle.wire.proofs.Refusing.{Passes}
 use Rattle.node.specs.declared.Node.{Node}
 use Rattle.node.specs.Slots.{slotFor, isFree, some}
 use Rattle.node.specs.Nodes.{hasSlot, withSlots, Outcome, done}
 use Rattle.node.specs.SetUp.{setUpRefusals, inPlace, setUp}
-use Rattle.node.proofs.Cases.{Passes, Cases, cases}
+use Rattle.node.proofs.Cases.{Cases, cases}
 
 module _ (s : Stream) (settings : Settings) (n : Node) where
   pub record SetUpFacts : Type 0 where

@@ -10,13 +10,13 @@ use Rattle.wire.specs.declared.settings.Settings.{Settings}
 use Rattle.wire.specs.declared.reply.Reply.{Reply}
 use Rattle.wire.specs.declared.reply.Reply.the-variants.{BadSettings, TableFull, Taken}
 use Rattle.wire.specs.Settings.{legal}
+use Rattle.wire.proofs.Refusing.{Refuses, here, later}
 use Rattle.node.specs.declared.slots.Slot.{Slot}
 use Rattle.node.specs.declared.Node.{Node}
 use Rattle.node.specs.Slots.{slotFor, isFree, isOf, some}
 use Rattle.node.specs.Nodes.{hasSlot, withSlots, Outcome, refused, done, asAnswered}
 use Rattle.node.specs.SetUp.{setUpRefusals, setUp}
 use Rattle.node.specs.Calls.{Call}
-use Rattle.node.proofs.Cases.{Refuses, here, later}
 use Rattle.node.proofs.set_up.Cases.{set-up-cases}
 use Rattle.node.proofs.set_up.Placing.{isAfter, movedUp, placed}
 use Rattle.node.proofs.rollover.Promises.{Promised, promised}

@@ -8,7 +8,6 @@ use Rattle.wire.specs.declared.ids.Stream.{Stream}
 use Rattle.wire.specs.declared.settings.Settings.{Settings}
 use Rattle.wire.specs.Identifiers.{join}
 use Rattle.wire.specs.Classes.{carries}
-use Rattle.wire.specs.Frames.{badFrame}
 use Rattle.wire.specs.Settings.{ofPlain, ofImd, legal}
 use Rattle.wire.specs.Delivered.{recordOf}
 use Rattle.node.specs.declared.slots.Slot.{Slot}
@@ -49,18 +48,18 @@ abbrev history : List Call
 history = Call.setUp nine imd ∷ Call.setUp five imd ∷ data-for nine 7 ∷ data-for five 8 ∷ Call.tick (replicate tickRoom 0) ∷ []
 
 pub two-layouts : (streams (after rolled history) ≡ 5 ∷ 9 ∷ 0 ∷ []) × (streams (in-old-layout history) ≡ 9 ∷ 5 ∷ 0 ∷ [])
-unfolding setUp lessFree inPlace hear heardBy deliveredAtOnce tick late due holdOver lapsed legal badFrame carries first onFirst some
+unfolding setUp lessFree inPlace hear heardBy deliveredAtOnce tick late due holdOver lapsed legal carries first onFirst some
 two-layouts = (refl, refl)
 
 abbrev delivered-in-one-pass : Node → List ℕ
 delivered-in-one-pass n = tick rolled (replicate tickRoom 0) n .bytes
 
 pub ascending-in-order : delivered-in-one-pass (after rolled history) ≡ recordOf five (8 ∷ []) ++ recordOf nine (7 ∷ [])
-unfolding setUp lessFree inPlace hear heardBy deliveredAtOnce tick late due holdOver lapsed dueSlots recordsFrom recordOf legal badFrame carries first onFirst some
+unfolding setUp lessFree inPlace hear heardBy deliveredAtOnce tick late due holdOver lapsed dueSlots recordsFrom recordOf legal carries first onFirst some
 ascending-in-order = refl
 
 pub not-ascending-otherwise : delivered-in-one-pass (in-old-layout history) ≡ recordOf nine (7 ∷ []) ++ recordOf five (8 ∷ [])
-unfolding hear heardBy deliveredAtOnce tick late due holdOver lapsed dueSlots recordsFrom recordOf legal badFrame carries first onFirst some
+unfolding hear heardBy deliveredAtOnce tick late due holdOver lapsed dueSlots recordsFrom recordOf legal carries first onFirst some
 not-ascending-otherwise = refl
 
 -- ── the next frame ──

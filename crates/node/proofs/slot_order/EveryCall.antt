@@ -7,20 +7,22 @@ use Rattle.wire.specs.declared.ids.Stream.{Stream}
 use Rattle.wire.specs.declared.ids.BusId.{BusId}
 use Rattle.wire.specs.declared.settings.Settings.{Settings}
 use Rattle.wire.specs.Identifiers.{streamOf, codeOf}
+use Rattle.wire.specs.Refusals.{Refusals}
+use Rattle.wire.proofs.Refusing.{Passes}
 use Rattle.node.specs.declared.slots.Slot.{Slot}
 use Rattle.node.specs.declared.Node.{Node}
 use Rattle.node.specs.Slots.{empty, slotFor, isFree, isOf}
-use Rattle.node.specs.Nodes.{fresh, slotCount, slotOf, withSlots, onSlot, Outcome, Refusals, unlessRefused, refused, done}
+use Rattle.node.specs.Nodes.{fresh, slotCount, slotOf, withSlots, onSlot, Outcome, unlessRefused, refused, done, telling}
 use Rattle.node.specs.Clock.{Clock}
 use Rattle.node.specs.SetUp.{setUpRefusals}
 use Rattle.node.specs.Hear.{heardBy, deliveredAtOnce, hearRefusals, hear}
-use Rattle.node.specs.Tick.{tickSlot, recordsFrom, ticked, tickRefusals}
+use Rattle.node.specs.Tick.{late, due, ageOf, lapses, tickSlot, recordsFrom, ticked, tickRefusals}
+use Rattle.node.specs.Told.{Report, toldBy, ofFrame}
 use Rattle.node.specs.Request.{requested, requestRefusals, request}
 use Rattle.node.specs.NextFrame.{givenOut}
 use Rattle.node.specs.Calls.{Call, outcome, afterFrom, Answer, answerOf, answersFrom}
 use Rattle.node.specs.OldLayout.{Layout, firstFree, setUpIn, dueByStream, tickByStream, pendingIds, giveById, nextById, outcomeIn}
 use Rattle.node.specs.SlotOrder.{Settled, SameSlots, SameOutcome, Fills, LayoutUnseen, afterBy, answersBy}
-use Rattle.node.proofs.Cases.{Passes}
 use Rattle.node.proofs.set_up.Cases.{SetUpFacts, set-up-facts}
 use Rattle.node.proofs.slots.Table.{all-replicate}
 use Rattle.node.proofs.slots.Streams.{KeepsKind, heard-keeps, requested-keeps, given-out-keeps, distinct-fresh}
@@ -28,7 +30,7 @@ use Rattle.node.proofs.slot_order.LowestOfAll.{lowestOrAbove, refusalsB
 use Rattle.node.proofs.slot_order.Reordered.{some-reordered, first-reordered, on-first-reordered}
 use Rattle.node.proofs.slot_order.Settled.{EmptyIfFree, one-of-stream, free-alike, settled-reordered, settled-on-slot, settled-map, settled-set-up}
 use Rattle.node.proofs.slot_order.Settled.{tick-keeps, none-ticked}
-use Rattle.node.proofs.slot_order.Records.{due-reordered, lowest-reordered}
+use Rattle.node.proofs.slot_order.Records.{due-reordered, many-reordered, lowest-reordered}
 
 -- the same tests refuse both calls, or the outcomes are alike where none does
 unless-refused-alike : {n m : Node} → SameSlots n m → (tests : Refusals) {o p : Outcome} → (Passes tests → SameOutcome o p)
@@ -43,6 +45,10 @@ unless-refused-alike {n} {m} same ((r, t) ∷ rest) {o} {p} alike = go t refl (�
 
 done-alike : {n m : Node} (written : List ℕ) → SameSlots n m → SameOutcome (done n written) (done m written)
 done-alike written same = record { answer = refl; node = same }
+
+telling-alike : (report : Report) {o p : Outcome} → SameOutcome o p → SameOutcome (telling report o) (telling report p)
+telling-alike report same =
+    record { answer = ap (λ (a : Answer). record { reply = a .reply; id = a .id; bytes = a .bytes; report = report }) (same .answer); node = same .node }
 
 -- ── each call, on a node and on one with its slots in another order ──
 module _ (n : Node) (settled : Settled (n .slots)) (others : List Slot) (reordered : List·Permᴰ (n .slots) others) where
@@ -90,7 +96,9 @@ module _ (n : Node) (settled : Settled (n .slots)) (others : List Slot) (reorder
       let code = codeOf id in
       rw (same-slot s)
       (unless-refused-alike same (hearRefusals id dlc payload output (slotOf s n))
-      (λ passed. done-alike (deliveredAtOnce id payload) (same-on-slot s (heardBy (n .counter) code payload) (heard-keeps (n .counter) code payload))))
+      (λ passed.
+      telling-alike (ofFrame (toldBy code (slotOf s n)))
+      (done-alike (deliveredAtOnce id payload) (same-on-slot s (heardBy (n .counter) code payload) (heard-keeps (n .counter) code payload)))))
 
   tick-alike : (clock : Clock) (output : List ℕ) → SameOutcome (tickByStream clock output n) (tickByStream clock output m)
   tick-alike clock output =
@@ -101,8 +109,13 @@ module _ (n : Node) (settled : Settled (n .slots)) (others : List Slot) (reorder
         slots = Permᴰ·map (tickSlot clock now) reordered;
         counter = refl;
       } in
-      rw (← (due-reordered clock now reordered (settled .distinct)))
-      (unless-refused-alike same (tickRefusals output) (λ passed. done-alike (recordsFrom (dueByStream clock now (n .slots))) same-ticked))
+      rw (
+        ← (due-reordered clock now reordered (settled .distinct)),
+        ← (many-reordered (λ x. late (ageOf clock now x) x) reordered),
+        ← (many-reordered (λ x. due (ageOf clock now x) x) reordered),
+      )
+      (unless-refused-alike same (tickRefusals output)
+      (λ passed. telling-alike (lapses clock now (n .slots)) (done-alike (recordsFrom (dueByStream clock now (n .slots))) same-ticked)))
 
   request-alike : (s : Stream) (payload : List ℕ) → SameOutcome (request s payload n) (request s payload m)
   unfolding request

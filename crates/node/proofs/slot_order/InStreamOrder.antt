@@ -1,9 +1,10 @@
 -- With the slots in stream order every history has the same answers as in the old layout, and leaves the same slots.
 use mathlib.Core.Path.{_≡_, refl, sym, _∙_}
 use Rattle.wire.specs.Identifiers.{streamOf, codeOf}
+use Rattle.wire.specs.Refusals.{Refusals}
 use Rattle.node.specs.declared.Node.{Node}
 use Rattle.node.specs.Slots.{isOf}
-use Rattle.node.specs.Nodes.{fresh, slotCount, Outcome, Refusals}
+use Rattle.node.specs.Nodes.{fresh, slotCount, Outcome}
 use Rattle.node.specs.Clock.{Clock}
 use Rattle.node.specs.SetUp.{inPlace, setUp}
 use Rattle.node.specs.Hear.{heardBy}

@@ -11,9 +11,10 @@ use lib.ListN.{length}
 use borrow.Author.Tests.{leb-true, leb-false, le-ltb}
 use Rattle.wire.specs.Identifiers.{maxBusId}
 use Rattle.wire.specs.declared.reply.Reply.the-variants.{ShortOutput, Nothing}
+use Rattle.wire.specs.Refusals.{Refusals}
 use Rattle.node.specs.declared.slots.Slot.{Slot}
 use Rattle.node.specs.declared.Node.{Node}
-use Rattle.node.specs.Nodes.{Refusals, unlessRefused}
+use Rattle.node.specs.Nodes.{unlessRefused}
 use Rattle.node.specs.NextFrame.{nextRoom}
 use Rattle.node.specs.OldLayout.{isNone, lowest, pendingIn, pendingIds, giveById, nextByIdRefusals, nextById}
 use Rattle.node.proofs.Choices.{contrary}

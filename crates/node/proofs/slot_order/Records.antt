@@ -1,4 +1,4 @@
--- What a tick delivers, and the lowest pending identifier, from slots in another order.
+-- What a tick delivers and tells, and the lowest pending identifier, from slots in another order.
 use Prim.Native.Nat.{ℕ, _<_}
 use native.Mathlib.Omega.{arith}
 use borrow.Author.Tests.{eqb-false}
@@ -6,7 +6,7 @@ use mathlib.Core.Path.{_≡_, refl, sym, ap, _∙_}
 use mathlib.Core.Bool.{Bool, true, false, cond}
 use mathlib.Core.List.{List, [], _∷_, _++_, List·Permᴰ, List·Permᴰ·nil, List·Permᴰ·cons, List·Permᴰ·swap, List·Permᴰ·trans}
 use Rattle.node.specs.declared.slots.Slot.{Slot}
-use Rattle.node.specs.Slots.{isOf, some}
+use Rattle.node.specs.Slots.{isOf, some, many}
 use Rattle.node.specs.Clock.{Clock}
 use Rattle.node.specs.Tick.{due, ageOf}
 use Rattle.node.specs.OldLayout.{place, dueByStream, pendingIn, pendingIds}
@@ -87,6 +87,14 @@ module _ (clock : Clock) (now : ℕ) where
       arm false true p q = refl
       arm false false p q = refl
   due-reordered (List·Permᴰ·trans d₁ d₂) ds = due-reordered d₁ ds ∙ due-reordered d₂ (distinct-reordered d₁ ds)
+
+-- ── how many are late, or due ──
+pub many-reordered : (test : Slot → Bool) {xs ys : List Slot} → List·Permᴰ xs ys → many test xs ≡ many test ys
+unfolding many
+many-reordered test List·Permᴰ·nil = refl
+many-reordered test (List·Permᴰ·cons e d) = rw (e, many-reordered test d)
+many-reordered test (List·Permᴰ·swap {a} {b} {l = l} e₁ e₂) = rw (← e₁, ← e₂) (omega arith)
+many-reordered test (List·Permᴰ·trans d₁ d₂) = many-reordered test d₁ ∙ many-reordered test d₂
 
 -- ── the lowest pending identifier ──
 pub lowest-reordered : {xs ys : List Slot} → List·Permᴰ xs ys → lowestOrAbove (pendingIds xs) ≡ lowestOrAbove (pendingIds ys)

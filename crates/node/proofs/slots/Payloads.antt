@@ -1,15 +1,15 @@
 -- Payloads: comparing two byte by byte, and padding one with zeros.
 use mathlib.Core.Path.{_≡_, refl, sym, ap, _∙_}
-use mathlib.Core.Bool.{Bool, true, false, _&&_}
+use mathlib.Core.Bool.{Bool, true, false, cond, _&&_}
 use mathlib.Core.List.{List, [], _∷_, _++_}
 use Prim.Native.Nat.{ℕ, suc, _+_, _-_, _≤_, _<_, min}
 use native.Mathlib.Nat.{zero-add}
 use native.Mathlib.Numerals.{add-one}
 use native.Mathlib.Omega.{arith}
 use lib.ListN.{length, getD, take, drop, set, replicate, length-take, take-append-drop, drop-of-length-le}
-use lib.Seq.{drop-cons, paste-suc, take-append-seam, take-all, getD-take, length-take-le}
-use lib.Dec.{eqb}
-use borrow.Author.Tests.{eq-eqb, ne-eqb}
+use lib.Seq.{drop-cons, paste, paste-suc, take-append-seam, take-all, getD-take, length-take-le}
+use lib.Dec.{eqb, leb}
+use borrow.Author.Tests.{eq-eqb, ne-eqb, le-leb}
 use Rattle.wire.specs.Frames.{maxPayload}
 use Rattle.wire.specs.Delivered.{over}
 use Rattle.wire.proofs.Records.{cut-at-eight, cut-payload-length}
@@ -98,6 +98,18 @@ module _ (m : Message) (bytes : List ℕ) (all : (bytes ≡ m .bytes) × (length
   part-is-payload =
       let whole : n - 0 ≡ length (payloadOf m) = omega arith in
       rw (whole, all .0, take-as-many (m .len) (m .bytes)) (take-all maxPayload (payloadOf m) short)
+
+  -- all eight of them are copied
+  pub eight-copied : n ≡ maxPayload → (output : List ℕ) → maxPayload ≤ length output → (after : List ℕ)
+      → after
+      ≡ cond (leb (0 + maxPayload) (length output) && leb maxPayload (length (take (n - 0) bytes))) (paste output 0 (take (n - 0) bytes) maxPayload) output
+      → after ≡ over (payloadOf m) output
+  eight-copied full output room after made =
+      let long : length (take (n - 0) bytes) ≡ n - 0 = length-take-le (n - 0) bytes (omega (arith, part-within)) in
+      let fits = le-leb (0 + maxPayload) (length output) (omega arith) in
+      let enough = le-leb maxPayload (length (take (n - 0) bytes)) (omega arith) in
+      let eight : length (payloadOf m) ≡ maxPayload = omega arith in
+      made ∙ rw (fits, enough, part-is-payload, eight)
 
 pub copied-payload : (m : Message) (output : List ℕ) (n : ℕ) → n ≡ length (payloadOf m) → copied output (m .bytes) n ≡ over (payloadOf m) output
 copied-payload m output n e = rw (e, take-as-many (m .len) (m .bytes))

@@ -4,11 +4,12 @@ use mathlib.Core.List.{List}
 use Prim.Native.Nat.{ℕ, _≤_}
 use borrow.Author.Tests.{ltb-false, le-ltb}
 use lib.ListN.{length}
+use Rattle.wire.proofs.Refusing.{Passes}
 use Rattle.node.specs.declared.Node.{Node}
-use Rattle.node.specs.Nodes.{Outcome, done}
+use Rattle.node.specs.Nodes.{Outcome, done, telling}
 use Rattle.node.specs.Clock.{Clock}
-use Rattle.node.specs.Tick.{tickRoom, dueSlots, recordsFrom, ticked, tickRefusals, tick}
-use Rattle.node.proofs.Cases.{Passes, Cases, cases}
+use Rattle.node.specs.Tick.{tickRoom, lapses, dueSlots, recordsFrom, ticked, tickRefusals, tick}
+use Rattle.node.proofs.Cases.{Cases, cases}
 
 module _ (output : List ℕ) where
   pub record TickFacts : Type 0 where
@@ -22,7 +23,9 @@ module _ (output : List ℕ) where
 
   module _ (clock : Clock) (n : Node) where
     abbrev pub after-tick : Outcome
-    after-tick = done (ticked clock n) (recordsFrom (dueSlots clock (clock .next (n .counter)) (n .slots)))
+    after-tick =
+        telling (lapses clock (clock .next (n .counter)) (n .slots))
+        (done (ticked clock n) (recordsFrom (dueSlots clock (clock .next (n .counter)) (n .slots))))
 
     pub tick-cases : Cases n (tickRefusals output) TickFacts after-tick (tick clock output n)
     unfolding tick

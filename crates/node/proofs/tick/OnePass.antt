@@ -1,6 +1,6 @@
--- The tick's loop: it goes up through the slots, writes the records of those that are due, and lets each lapse.
+-- The tick's loop: it goes up through the slots, writes the records of those that are due, lets each lapse, and counts.
 use mathlib.Core.Path.{_≡_, refl, sym, ap, _∙_}
-use mathlib.Core.Bool.{true, false}
+use mathlib.Core.Bool.{Bool, true, false, cond}
 use mathlib.Core.List.{List, [], _∷_, _++_, map, append-nil, append-assoc}
 use Prim.Native.Nat.{ℕ, _+_, _-_, _*_, _≤_, _<_}
 use native.Mathlib.Omega.{arith}
@@ -12,11 +12,11 @@ use Rattle.wire.specs.Delivered.{recordOf, over, fitting}
 use Rattle.wire.proofs.Records.{cut-length, does-fit}
 use Rattle.node.specs.declared.slots.Slot.{Slot}
 use Rattle.node.specs.declared.Node.{Node}
-use Rattle.node.specs.Slots.{payloadOf}
+use Rattle.node.specs.Slots.{payloadOf, many}
 use Rattle.node.specs.Nodes.{slotCount, withSlots}
 use Rattle.node.specs.Clock.{Clock}
 use Rattle.node.specs.Hear.{hearRoom}
-use Rattle.node.specs.Tick.{tickRoom, due, lapsed, ageOf, tickSlot, dueSlots, recordFrom, recordsFrom}
+use Rattle.node.specs.Tick.{tickRoom, late, due, lapsed, ageOf, tickSlot, dueSlots, recordFrom, recordsFrom}
 use Rattle.node.proofs.slots.Payloads.{part-within, part-is-payload}
 use Rattle.node.proofs.slots.Upward.{changed, all-changed, changed-not-yet, changed-one-more, changed-one-kept}
 
@@ -61,6 +61,56 @@ module _ {clock : Clock} {now : ℕ} {n₀ n : Node} {i : ℕ} (l : Lapsing cloc
             node-is =
                 rw (lapses, slot-as-it-was, l .node-is) (ap with-slots (changed-one-more (tickSlot clock now) i (n₀ .slots) d within));
           }
+
+-- ── counting ──
+one-or-none : (t : Bool) → cond t 1 0 ≤ 1
+one-or-none true = omega arith
+one-or-none false = omega arith
+
+-- of the slots before i so many were late, and so many due
+pub record Counting (clock : Clock) (now : ℕ) (slots : List Slot) (i dropped delivered : ℕ) : Type 0 where
+  pub all : length slots ≡ slotCount
+  pub late-ones : dropped + many (λ x. late (ageOf clock now x) x) (drop i slots) ≡ many (λ x. late (ageOf clock now x) x) slots
+  pub due-ones : delivered + many (λ x. due (ageOf clock now x) x) (drop i slots) ≡ many (λ x. due (ageOf clock now x) x) slots
+  pub few : (dropped ≤ i) × (delivered ≤ i)
+
+pub counting-at-first : (clock : Clock) (now : ℕ) (slots : List Slot) → length slots ≡ slotCount → Counting clock now slots 0 0 0
+counting-at-first clock now slots all = record { all = all; late-ones = omega arith; due-ones = omega arith; few = (omega arith, omega arith) }
+
+module _ {clock : Clock} {now : ℕ} {slots : List Slot} {i dropped delivered : ℕ} (k : Counting clock now slots i dropped delivered) where
+  pub all-counted : slotCount ≤ i
+      → (dropped ≡ many (λ x. late (ageOf clock now x) x) slots) × (delivered ≡ many (λ x. due (ageOf clock now x) x) slots)
+  unfolding many
+  all-counted h =
+      let none = drop-of-length-le slots {i = i} (omega (arith, k .all)) in
+      let late-ones = rw none at (k .late-ones) in
+      let due-ones = rw none at (k .due-ones) in
+      (omega arith, omega arith)
+
+  module _ (d : Slot) (h : i < slotCount) (x : Slot) (same : x ≡ getD slots i d) (age : ℕ) (a : age ≡ ageOf clock now x) where
+    -- one slot more, with whether it is late, and whether it is due
+    pub one-counted : (late-now due-now : Bool) → late age x ≡ late-now → due age x ≡ due-now
+        → (p q : ℕ) → p ≡ dropped + cond late-now 1 0 → q ≡ delivered + cond due-now 1 0 → Counting clock now slots (i + 1) p q
+    unfolding many
+    one-counted late-now due-now l e p q dropped-now delivered-now =
+        let one-more : drop i slots ≡ x ∷ drop (i + 1) slots = rw (same, add-one) (drop-cons slots i d (omega (arith, k .all))) in
+        let late-ones = rw (one-more, ← a, l) at (k .late-ones) in
+        let due-ones = rw (one-more, ← a, e) at (k .due-ones) in
+        record {
+          all = k .all;
+          late-ones = omega (arith, late-ones, dropped-now);
+          due-ones = omega (arith, due-ones, delivered-now);
+          few = (omega (arith, one-or-none late-now, dropped-now, k .few .0), omega (arith, one-or-none due-now, delivered-now, k .few .1));
+        }
+
+    pub one-late : late age x ≡ true → due age x ≡ false → Counting clock now slots (i + 1) (dropped + 1) delivered
+    one-late l e = one-counted true false l e _ _ refl (omega arith)
+
+    pub one-due : late age x ≡ false → due age x ≡ true → Counting clock now slots (i + 1) dropped (delivered + 1)
+    one-due l e = one-counted false true l e _ _ (omega arith) refl
+
+    pub one-neither : late age x ≡ false → due age x ≡ false → Counting clock now slots (i + 1) dropped delivered
+    one-neither l e = one-counted false false l e _ _ (omega arith) (omega arith)
 
 -- ── writing ──
 -- a part of an output from `at` on was lent, and came back with bytes at its front

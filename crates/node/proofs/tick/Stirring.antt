@@ -81,7 +81,7 @@ module _ (age : ℕ) (x : Slot) where
   ready-is-not-late t =
       rw (and-assoc (isReceiver x && x .message .held) (isTwoMessage (x .settings)) (not (x .message .confirmed)), t) (simp and-false)
 
-  due-is-not-late : due age x ≡ true → late age x ≡ false
+  pub due-is-not-late : due age x ≡ true → late age x ≡ false
   due-is-not-late d = go waits refl
     where
       go : (w : Bool) → waits ≡ w → late age x ≡ false

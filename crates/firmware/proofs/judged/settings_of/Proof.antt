@@ -1,14 +1,17 @@
--- `settings_of` meets its contract: what is legal fits, and each answer goes by the test.
+-- `settings_of` meets its contract: each answer goes by the test, and what fits is not cut.
 use borrow.Author.Needs.{needs}
 use native.Mathlib.Omega.{arith}
-use mathlib.Core.Path.{sym, _∙_}
-use Rattle.firmware.specs.Judged.{inNumbers, settingsOf}
-use Rattle.firmware.proofs.Judging.{FitSettings, legal-fits}
+use Rattle.firmware.specs.declared.judged.SettingsC.{SettingsC}
+use Rattle.firmware.specs.Judged.{settingsOf}
+use Rattle.firmware.proofs.Judging.{FitSettings, fit-tells}
 use Rattle.firmware.proofs.judged.settings_of.Statement.{statement}
 use Rattle.firmware.proofs.judged.settings_of.Tie as tie
 
-fits : (c : tie.Then1) → FitSettings (inNumbers (c .before .before .args .settings))
-fits c = legal-fits (record { 0 = c .before .before .args .stream }) _ (sym (c .before .legal-numbers .ensures) ∙ c .if1 .taken)
+abbrev given : tie.After-struct-known6 → SettingsC
+given c = c .before .before .before .before .before .before .args .settings
+
+fits : (c : tie.Then1) → FitSettings (given (c .before))
+fits c = fit-tells (given (c .before)) .says (c .if1 .taken)
 
 cast-of : tie.Need-cast-of
 cast-of c = omega (arith, fits (c .before) .role)
@@ -32,17 +35,16 @@ returns : tie.Need-returns
 unfolding settingsOf
 returns c =
     let then = c .before .before .before .before .before .before .before in
-    rw (sym (then .before .legal-numbers .ensures) ∙ then .if1 .taken) (c .of .ensures)
+    rw (then .if1 .taken) (c .of .ensures)
 
 returns-2 : tie.Need-returns-2
 unfolding settingsOf
-returns-2 c = rw (sym (c .before .before .legal-numbers .ensures) ∙ c .before .if1 .left) (c .of-plain .ensures)
+returns-2 c = rw (c .before .if1 .left) (c .of-plain .ensures)
 
 pub settings-of-spec : {M : Type 1} → statement M
 settings-of-spec =
     tie.close
     (tie.spec
-    (λ c κs. search needs)
     cast-of
     cast-of-2
     cast-of-3

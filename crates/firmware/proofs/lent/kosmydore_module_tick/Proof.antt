@@ -3,9 +3,9 @@ use mathlib.Core.Path.{ap}
 use denote.Ref.{now}
 use borrow.Author.Needs.{needs}
 use Rattle.node.specs.Calls.{Call}
-use Rattle.node_bytes.specs.declared.Written.{Written}
+use Rattle.node_bytes.specs.declared.tick.LentTicked.{LentTicked}
 use Rattle.node_bytes.specs.LentCalls.{lentOutcome}
-use Rattle.firmware.proofs.LentAnswering.{asWrittenC, counts-so}
+use Rattle.firmware.proofs.LentAnswering.{asLentTickedC, counts-so}
 use Rattle.firmware.proofs.lent.kosmydore_module_tick.Statement.{statement}
 use Rattle.firmware.proofs.lent.kosmydore_module_tick.Tie as tie
 
@@ -19,8 +19,8 @@ returns c =
     let numbered = number .number .ensures in
     let call = Call.tick (now (a .out)) in
     let counts =
-    counts-so call (now (a .bytes)) _ _ numbered (ap (λ (w : Written). w .reply) (told .0)) (now (a .tally)) _ (counted .count-in .ensures .1) in
-    (asWrittenC (called .tick .result) (lentOutcome call (now (a .bytes))) _ numbered (told .0), (told .1 .0, (told .1 .1, counts)))
+    counts-so call (now (a .bytes)) _ _ numbered (ap (λ (w : LentTicked). w .reply) (told .0)) (now (a .tally)) _ (counted .count-in .ensures .1) in
+    (asLentTickedC (called .tick .result) (lentOutcome call (now (a .bytes))) _ numbered (told .0), (told .1 .0, (told .1 .1, counts)))
 
 pub kosmydore-module-tick-spec : {M : Type 1} → statement M
 kosmydore-module-tick-spec =

@@ -4,10 +4,10 @@ use Rattle.harness.proofs.ticking.run.Statement.{statement}
 use Rattle.harness.proofs.ticking.run.Tie as tie
 
 abbrev Inv-loop : tie.InvT-loop
-Inv-loop state n dated out₀ to bench₀ tick₀ past₀ left₀ out bench tick past left = Unit {0}
+Inv-loop state nodes₀ n dated outs₀ out₀ to bench tick₀ past₀ left₀ nodes outs out tick past left = Unit {0}
 
 abbrev μ-loop : tie.MeasureT-loop
-μ-loop state n dated out₀ to bench₀ tick₀ past₀ left₀ out bench tick past left = left
+μ-loop state nodes₀ n dated outs₀ out₀ to bench tick₀ past₀ left₀ nodes outs out tick past left = left
 
 pub run-spec : {M : Type 1} → statement M
 run-spec =

@@ -31,8 +31,8 @@ use Rattle.wire.specs.Delivered.{over}
 use Rattle.wire.proofs.ids.BusId as B
 use Rattle.wire.proofs.ids.BusId.Laws as B′
 use Rattle.node.specs.declared.Node.{Node}
-use Rattle.node.specs.declared.Delivered.{Delivered}
-use Rattle.node.specs.Nodes.{Outcome, asDelivered}
+use Rattle.node.specs.declared.Heard.{Heard}
+use Rattle.node.specs.Nodes.{Outcome, asHeard}
 use Rattle.node.specs.Hear.{hear}
 use Rattle.node.specs.Calls.{rollOutcome}
 use Rattle.node.proofs.Node as N
@@ -86,14 +86,14 @@ module _ {M : Type 1} (𝓤 : URA M) (H : Heap 𝓤) (A : Atoms 𝓤) (W : Given
   )
 
   -- what the node's call says of its answer and of the output
-  abbrev Told : Outcome → Delivered → List ℕ → Type 0
-  Told o r zs = (r ≡ asDelivered o) × (zs ≡ over (o .bytes) (u .now))
+  abbrev Told : Outcome → Heard → List ℕ → Type 0
+  Told o r zs = (r ≡ asHeard o) × (zs ≡ over (o .bytes) (u .now))
 
   made : (C : Calls 𝓤 H) (Λ : Loops 𝓤 H) → Made (Go {0}) W C Λ code.function κ q t called.ended (called.clauses 𝓤 H A mem run) to-called
       (onEntry 𝓤 H A f.signature (entry .0 .0) (entry .0 .1) (entry .0 .3) (entry .0 .4))
       (Walked 𝓤 H A f.ended (f.clauses 𝓤 H A mem run) .post entry)
   made C Λ = record {
-    answer = answer.delivered 𝓤 H A W;
+    answer = answer.heard 𝓤 H A W;
     ps = (N′.mir, LL.val N.the-type N′.the-laws n) ∷ (B′.mir, LL.val B.the-type B′.the-laws id) ∷ (tyInt w8, vint w8 dlc)
         ∷ (typeOf code.function 4, sliceVal (p .ptr) (length (p .now))) ∷ (typeOf code.function 5, sliceVal (u .ptr) (length (u .now))) ∷ [];
     typed = (
@@ -122,11 +122,11 @@ module _ {M : Type 1} (𝓤 : URA M) (H : Heap 𝓤) (A : Atoms 𝓤) (W : Given
     splits = passes-on 𝓤 H A W (flft κ₀ q₀ ∷ flft κ₁ q₁ ∷ []) (owned (typesAt (called.signature .params) (κ₀, (κ₁, tt))) asked at) (flft κ q)
         (MutRef (named 2) κ T.the-row .own t (tallyVal t ∷ []));
     ends = λ r ws w e counted.
-        leaves 𝓤 H A W f.ended (f.clauses 𝓤 H A mem run) entry (answer.delivered 𝓤 H A W .val r) r
+        leaves 𝓤 H A W f.ended (f.clauses 𝓤 H A mem run) entry (answer.heard 𝓤 H A W .val r) r
         (tt, (tt, (tt, (tt, (ws .1 .1 .1 .1 .0, (w, tt)))))) (tt, (tt, (tt, (tt, (tt, (tt, tt))))))
         (flft κ₀ q₀ ∷ flft κ₁ q₁ ∷ []) (lefts (κ₀, (κ₁, tt)) (called.signature .params) (called.ended .kept) asked ws) (flft κ q)
         (fres (t .name) (T.the-row .coded .code w)) refl refl refl
-        (e .0, e .1, counted ∙ ap (λ (k : Delivered). tallied (t .now) (k .reply)) (e .0));
+        (e .0, e .1, counted ∙ ap (λ (k : Heard). tallied (t .now) (k .reply)) (e .0));
   }
 
 pub hear-spec : {M : Type 1} → stated.statement M

@@ -26,8 +26,8 @@ use denote.Triple.Table.{cited}
 use Rattle.wire.proofs.Walking.{copied}
 use Rattle.wire.specs.Delivered.{over}
 use Rattle.node.specs.declared.Node.{Node}
-use Rattle.node.specs.declared.Delivered.{Delivered}
-use Rattle.node.specs.Nodes.{Outcome, asDelivered}
+use Rattle.node.specs.declared.Ticked.{Ticked}
+use Rattle.node.specs.Nodes.{Outcome, asTicked}
 use Rattle.node.specs.Clock.{rolled, unbounded}
 use Rattle.node.specs.Tick.{tick}
 use Rattle.node.specs.Calls.{rollOutcome}
@@ -69,14 +69,14 @@ module _ {M : Type 1} (𝓤 : URA M) (H : Heap 𝓤) (A : Atoms 𝓤) (W : Given
   entry = (((κ₀, (κ, tt)), (q₀, (q, tt)), tt, (n, (u, (t, tt))), (at .0, (at .1 .0, (tallyVal t ∷ [], tt)))), tt)
 
   -- what the node's call says of its answer and of the output
-  abbrev Told : Outcome → Delivered → List ℕ → Type 0
-  Told o r zs = (r ≡ asDelivered o) × (zs ≡ over (o .bytes) (u .now))
+  abbrev Told : Outcome → Ticked → List ℕ → Type 0
+  Told o r zs = (r ≡ asTicked o) × (zs ≡ over (o .bytes) (u .now))
 
   made : (C : Calls 𝓤 H) (Λ : Loops 𝓤 H) → Made (Go {0}) W C Λ code.function κ q t called.ended (called.clauses 𝓤 H A mem run) to-called
       (onEntry 𝓤 H A f.signature (entry .0 .0) (entry .0 .1) (entry .0 .3) (entry .0 .4))
       (Walked 𝓤 H A f.ended (f.clauses 𝓤 H A mem run) .post entry)
   made C Λ = record {
-    answer = answer.delivered 𝓤 H A W;
+    answer = answer.ticked 𝓤 H A W;
     ps = (N′.mir, LL.val N.the-type N′.the-laws n) ∷ (typeOf code.function 2, sliceVal (u .ptr) (length (u .now))) ∷ [];
     typed = (LL.lawful N.the-type N′.the-laws 𝓤 H A W .typed n _ node-is .0, ((tt, (tt, (record { fits = u-room .0 }, tt))), tt));
     ms = lentOn u;
@@ -94,10 +94,10 @@ module _ {M : Type 1} (𝓤 : URA M) (H : Heap 𝓤) (A : Atoms 𝓤) (W : Given
     splits = passes-on 𝓤 H A W (flft κ₀ q₀ ∷ []) (owned (typesAt (called.signature .params) (κ₀, tt)) asked at) (flft κ q)
         (MutRef (named 1) κ T.the-row .own t (tallyVal t ∷ []));
     ends = λ r ws w e counted.
-        leaves 𝓤 H A W f.ended (f.clauses 𝓤 H A mem run) entry (answer.delivered 𝓤 H A W .val r) r (tt, (ws .1 .0, (w, tt))) (tt, (tt, (tt, tt)))
+        leaves 𝓤 H A W f.ended (f.clauses 𝓤 H A mem run) entry (answer.ticked 𝓤 H A W .val r) r (tt, (ws .1 .0, (w, tt))) (tt, (tt, (tt, tt)))
         (flft κ₀ q₀ ∷ []) (lefts (κ₀, tt) (called.signature .params) (called.ended .kept) asked ws) (flft κ q)
         (fres (t .name) (T.the-row .coded .code w)) refl refl refl
-        (e .0, e .1, counted ∙ ap (λ (k : Delivered). tallied (t .now) (k .reply)) (e .0));
+        (e .0, e .1, counted ∙ ap (λ (k : Ticked). tallied (t .now) (k .reply)) (e .0));
   }
 
 pub tick-spec : {M : Type 1} → stated.statement M

@@ -12,15 +12,17 @@ use lib.Dec.{eqb}
 use Rattle.wire.specs.declared.ids.Parts.{Parts}
 use Rattle.wire.specs.declared.reply.Reply.the-variants.{Done}
 use Rattle.wire.specs.Identifiers.{streamOf, codeOf}
-use Rattle.wire.specs.Frames.{badFrame}
+use Rattle.wire.specs.Frames.{isBare, frameRefusals}
+use Rattle.wire.proofs.Frames.{IsFrame}
+use Rattle.wire.specs.Refusals.{replyOf}
 use Rattle.node.specs.declared.slots.Slot.{Slot}
 use Rattle.node.specs.declared.Node.{Node}
 use Rattle.node.specs.Slots.{isOf}
-use Rattle.node.specs.Nodes.{replyOf, asDelivered}
+use Rattle.node.specs.Nodes.{asHeard}
 use Rattle.node.specs.Hear.{hearRoom, deliveredAtOnce, slotHearRefusals}
 use Rattle.node.specs.Calls.{Call}
 use Rattle.node.proofs.slots.Finding.{noSlot, length-of-mapped, indexOf, NoneBefore, none-at-first, not-here, search-ends}
-use Rattle.node.proofs.hear.Ways.{frame-splits, frame-whole, fits-at-once, short-output, bad-frame, no-slot, slot-refuses, heard}
+use Rattle.node.proofs.hear.Ways.{frame-splits, frame-whole, fits-at-once, short-output, no-frame, a-frame, no-slot, slot-refuses, heard}
 use Rattle.node.proofs.rollover.Promises.{promised-both}
 use Rattle.node.proofs.Node.hear.Statement.{statement}
 use Rattle.node.proofs.Node.hear.Tie as tie
@@ -53,26 +55,37 @@ module _ (s : tie.Start Inv-loop μ-loop) where
 returns : tie.Need-returns Inv-loop μ-loop
 returns c =
     let s = c .before .before .before in
-    promised-both (call s) (node s) asDelivered (output s) (short-output _ _ _ _ _ (c .if1 .taken)) refl refl
+    promised-both (call s) (node s) asHeard (output s) (short-output _ _ _ _ _ (c .if1 .taken)) refl refl
+
+-- the frame test answers as its refusals say
+module _ (c : tie.After-frame-reply Inv-loop μ-loop) where
+  abbrev start-1 : tie.Start Inv-loop μ-loop
+  start-1 = c .before .before .before .before .before
+
+  tested : c .frame-reply .result ≡ replyOf (frameRefusals (isBare (start-1 .args .id)) (start-1 .args .id) (start-1 .args .dlc) (length (payload start-1)))
+  tested = rw (c .before .is-bare .ensures) at (c .frame-reply .ensures)
 
 returns-2 : tie.Need-returns-2 Inv-loop μ-loop
 returns-2 c =
-    let b = c .before in
-    let s = b .before .before .before .before in
-    let bad = sym (b .bad-frame .ensures) ∙ c .if2 .taken in
-    promised-both (call s) (node s) asDelivered (output s) (bad-frame _ _ _ _ _ (b .before .if1 .left) bad) refl refl
+    let q = c .before in
+    let b = q .before in
+    let s = start-1 b in
+    let refuses = ap (λ (k : ℕ). eqb k 0) (sym (q .number .ensures)) ∙ ne-eqb _ _ (c .if2 .taken) in
+    promised-both (call s) (node s) asHeard (output s) (no-frame _ _ _ _ _ (b .before .before .if1 .left) _ (tested b) refuses) refl refl
 
 -- ── a frame ──
 -- the call, seen from past the second test; `start-3` and `start-4` from further on
 abbrev start-2 : tie.Else2 Inv-loop μ-loop → tie.Start Inv-loop μ-loop
-start-2 c = c .before .before .before .before .before
+start-2 c = start-1 (c .before .before)
 
 module _ (c : tie.Else2 Inv-loop μ-loop) where
   room : hearRoom ≤ length (output (start-2 c))
-  room = c .before .before .if1 .left
+  room = c .before .before .before .before .if1 .left
 
-  good : badFrame (start-2 c .args .id) (start-2 c .args .dlc) (length (payload (start-2 c))) ≡ false
-  good = sym (c .before .bad-frame .ensures) ∙ c .if2 .left
+  good : IsFrame (isBare (start-2 c .args .id)) (start-2 c .args .id) (start-2 c .args .dlc) (length (payload (start-2 c)))
+  good =
+      let taken = ap (λ (k : ℕ). eqb k 0) (sym (c .before .number .ensures)) ∙ eq-eqb _ _ (c .if2 .left) in
+      a-frame (start-2 c .args .id) (start-2 c .args .dlc) (payload (start-2 c)) (output (start-2 c)) (node (start-2 c)) room _ (tested (c .before .before)) taken
 
 abbrev parts : tie.Start Inv-loop μ-loop → Parts
 parts s = record { reply = Done; stream = streamOf (s .args .id); code = codeOf (s .args .id) }
@@ -80,7 +93,7 @@ parts s = record { reply = Done; stream = streamOf (s .args .id); code = codeOf 
 splits : (c : tie.After-split Inv-loop μ-loop) → c .split .result ≡ parts (start-2 (c .before))
 splits c =
     let s = start-2 (c .before) in
-    c .split .ensures ∙ frame-splits (s .args .id) (s .args .dlc) (length (payload s)) (good (c .before))
+    c .split .ensures ∙ frame-splits (isBare (s .args .id)) (s .args .id) (s .args .dlc) (length (payload s)) (good (c .before))
 
 -- ── the loop ──
 loop-holds : tie.Need-loop-holds Inv-loop μ-loop
@@ -108,7 +121,7 @@ returns-3 c =
     let b = f .before .before .before .before in
     let s = start-3 f in
     let none : length (node s .slots) ≤ f .before .loop .i = omega (arith, long s) in
-    promised-both (call s) (node s) asDelivered (output s) (no-slot _ _ _ _ _ (room b) (good b) _ (found f) none) refl refl
+    promised-both (call s) (node s) asHeard (output s) (no-slot _ _ _ _ _ (room b) (good b) _ (found f) none) refl refl
 
 -- ── the slot of its stream ──
 module _ (c : tie.Else4 Inv-loop μ-loop) where
@@ -134,8 +147,8 @@ returns-4 c =
     let o = a .before .before in
     let b = o .before .before .before .before .before in
     let s = start-4 o in
-    let refuses = ap (λ (k : ℕ). eqb k 0) (sym (q .number .ensures)) ∙ ne-eqb _ _ (c .if5 .taken) in
-    promised-both (call s) (node s) asDelivered (output s)
+    let refuses = ap (λ (k : ℕ). eqb k 0) (sym (q .number2 .ensures)) ∙ ne-eqb _ _ (c .if5 .taken) in
+    promised-both (call s) (node s) asHeard (output s)
     (slot-refuses _ _ _ _ _ (room b) (good b) _ (found (o .before)) noSlot (inside o) _ (answers a) refuses)
     refl refl
 
@@ -145,20 +158,21 @@ unfolding deliveredAtOnce
 returns-5 c =
     let w = c .before .before in
     let h = w .before .before in
-    let q = h .before .before in
+    let q = h .before .before .before in
     let a = q .before in
     let o = a .before .before in
     let b = o .before .before .before .before .before in
     let s = start-4 o in
     let p = splits (o .before .before .before .before) in
-    let takes = ap (λ (k : ℕ). eqb k 0) (sym (q .number .ensures)) ∙ eq-eqb _ _ (h .before .if5 .left) in
+    let takes = ap (λ (k : ℕ). eqb k 0) (sym (q .number2 .ensures)) ∙ eq-eqb _ _ (h .before .before .if5 .left) in
+    let told = rw p at (h .before .told .ensures) in
     let changed = rw p at (h .hear .ensures) in
     let written =
-    rw (p, fits-at-once _ _ (payload s) (output s) (room b), frame-whole (s .args .id) (s .args .dlc) (payload s) (good b)) at
+    rw (p, fits-at-once _ _ (payload s) (output s) (room b), frame-whole (isBare (s .args .id)) (s .args .id) (s .args .dlc) (payload s) (good b)) at
     (w .deliver-plain .ensures) in
-    promised-both (call s) (node s) asDelivered (output s)
+    promised-both (call s) (node s) asHeard (output s)
     (heard _ _ _ _ _ (room b) (good b) _ (found (o .before)) noSlot (inside o) _ (answers a) takes changed)
-    (rw (written .0))
+    (rw (written .0, told))
     (written .1)
 
 pub hear-spec : {M : Type 1} → statement M
@@ -168,6 +182,8 @@ hear-spec =
     Inv-loop
     μ-loop
     returns
+    (λ c κs. search needs)
+    (λ c κs. search needs)
     (λ c κs. search needs)
     returns-2
     (λ c κs. search needs)
@@ -184,6 +200,7 @@ hear-spec =
     (λ c κs. search needs)
     (λ c κs. search needs)
     returns-4
+    (λ c κs. search needs)
     (λ c κs. search needs)
     (λ c. search needs)
     (λ c. search needs)

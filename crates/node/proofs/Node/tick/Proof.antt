@@ -3,14 +3,16 @@
 use borrow.Author.Needs.{needs}
 use native.Mathlib.Omega.{arith}
 use mathlib.Core.Path.{_≡_, sym, _∙_}
+use mathlib.Core.Bool.{true, false}
 use Prim.Native.Nat.{_+_, _-_, _≤_}
 use lib.ListN.{length}
 use Rattle.node.specs.Nodes.{slotCount}
 use Rattle.node.specs.Hear.{hearRoom}
 use Rattle.node.specs.Clock.{rolled}
 use Rattle.node.proofs.slots.Finding.{noSlot, length-of-mapped}
-use Rattle.node.proofs.tick.Stirring.{late-is-dropped, due-is-delivered, over-is-ended, still-stays, young-is-still}
+use Rattle.node.proofs.tick.Stirring.{due-is-not-late, late-is-dropped, due-is-delivered, over-is-ended, still-stays, young-is-still}
 use Rattle.node.proofs.tick.OnePass.{Lapsing, lapsing-at-first, all-lapsed, slot-as-it-was, one-stays, one-lapses}
+use Rattle.node.proofs.tick.OnePass.{Counting, counting-at-first, all-counted, one-late, one-due, one-neither}
 use Rattle.node.proofs.tick.OnePass.{Writing, writing-at-first, all-written, writing-keeps-length, has-room, written-is-small}
 use Rattle.node.proofs.tick.OnePass.{one-is-not-due, lent-within, one-is-written}
 use Rattle.node.proofs.tick.Ways.{exact-and-unbounded, tick-refused, tick-done}
@@ -18,11 +20,12 @@ use Rattle.node.proofs.Node.tick.Statement.{statement}
 use Rattle.node.proofs.Node.tick.Tie as tie
 
 abbrev Inv-loop : tie.InvT-loop
-Inv-loop out₀ self₀ now at₀ passed₀ out self at passed =
+Inv-loop out₀ self₀ now at₀ dropped₀ delivered₀ passed₀ out self at dropped delivered passed =
     (passed ≤ slotCount) × Lapsing rolled now self₀ self passed × Writing rolled now (self₀ .slots) out₀ out passed at
+    × Counting rolled now (self₀ .slots) passed dropped delivered
 
 abbrev μ-loop : tie.MeasureT-loop
-μ-loop out₀ self₀ now at₀ passed₀ out self at passed = slotCount - passed
+μ-loop out₀ self₀ now at₀ dropped₀ delivered₀ passed₀ out self at dropped delivered passed = slotCount - passed
 
 -- ── refused ──
 returns : tie.Need-returns Inv-loop μ-loop
@@ -32,7 +35,7 @@ returns c = exact-and-unbounded _ _ _ _ (tick-refused rolled _ _ (omega arith))
 loop-holds : tie.Need-loop-holds Inv-loop μ-loop
 loop-holds c =
     let many : length (c .before .before .before .args .t1 .slots) ≡ slotCount = search (length-of-mapped, needs) in
-    (omega arith, lapsing-at-first rolled _ _ many, writing-at-first rolled _ _ _ many (omega arith))
+    (omega arith, lapsing-at-first rolled _ _ many, writing-at-first rolled _ _ _ many (omega arith), counting-at-first rolled _ _ many)
 
 -- the longest record fits behind those that are written
 room : (c : tie.In-loop Inv-loop μ-loop) → c .before .loop .at + hearRoom ≤ length (c .before .loop .out)
@@ -63,6 +66,12 @@ add-at c =
     (c .before .before .write-record .ensures .0) in
     omega (arith, room turn, small)
 
+-- no more messages than slots
+add-delivered : tie.Need-add-delivered Inv-loop μ-loop
+add-delivered c =
+    let turn = c .before .before .before .before .before .before .before .before .before .before .before .before .before .before .before .before .before in
+    omega (arith, turn .before .loop .inv .3 .few .1, turn .loop-test .taken)
+
 loop-again : tie.Need-loop-again Inv-loop μ-loop
 loop-again c =
     let counted = c .before .before .before .before .before .before in
@@ -79,7 +88,13 @@ loop-again c =
     let writes =
     one-is-written (l .2) noSlot h _ same _ age _ (made .all-bytes .ensures) _ (counted .payload-length .ensures) due _ _
     (c .before .before .write-record .ensures) in
-    (omega arith, lapses, writes)
+    let counts = one-due (l .3) noSlot h _ same _ age (due-is-not-late _ _ due) due in
+    (omega arith, lapses, writes, counts)
+
+add-dropped : tie.Need-add-dropped Inv-loop μ-loop
+add-dropped c =
+    let turn = c .before .before .before .before .before .before .before .before .before .before .before in
+    omega (arith, turn .before .loop .inv .3 .few .0, turn .loop-test .taken)
 
 loop-again-2 : tie.Need-loop-again-2 Inv-loop μ-loop
 loop-again-2 c =
@@ -93,7 +108,8 @@ loop-again-2 c =
     let late = sym (c .before .before .late .ensures) ∙ c .before .if4 .taken in
     let same = slot-as-it-was (l .1) noSlot h in
     let lapses = one-lapses (l .1) noSlot h _ age _ (c .dropped .ensures ∙ late-is-dropped _ _ late) in
-    (omega arith, lapses, one-is-not-due (l .2) noSlot h _ same _ age not-due)
+    let counts = one-late (l .3) noSlot h _ same _ age late not-due in
+    (omega arith, lapses, one-is-not-due (l .2) noSlot h _ same _ age not-due, counts)
 
 loop-again-3 : tie.Need-loop-again-3 Inv-loop μ-loop
 loop-again-3 c =
@@ -109,7 +125,8 @@ loop-again-3 c =
     let over = sym (c .before .before .hold-over .ensures) ∙ c .before .if5 .taken in
     let same = slot-as-it-was (l .1) noSlot h in
     let lapses = one-lapses (l .1) noSlot h _ age _ (c .hold-ended .ensures ∙ over-is-ended _ _ not-late not-due over) in
-    (omega arith, lapses, one-is-not-due (l .2) noSlot h _ same _ age not-due)
+    let counts = one-neither (l .3) noSlot h _ same _ age not-late not-due in
+    (omega arith, lapses, one-is-not-due (l .2) noSlot h _ same _ age not-due, counts)
 
 loop-again-4 : tie.Need-loop-again-4 Inv-loop μ-loop
 loop-again-4 c =
@@ -125,7 +142,8 @@ loop-again-4 c =
     let not-over = sym (c .before .hold-over .ensures) ∙ c .if5 .left in
     let same = slot-as-it-was (l .1) noSlot h in
     let stays = still-stays _ _ (record { not-late = not-late; not-due = not-due; not-over = not-over }) in
-    (omega arith, one-stays (l .1) noSlot h _ age stays, one-is-not-due (l .2) noSlot h _ same _ age not-due)
+    let counts = one-neither (l .3) noSlot h _ same _ age not-late not-due in
+    (omega arith, one-stays (l .1) noSlot h _ age stays, one-is-not-due (l .2) noSlot h _ same _ age not-due, counts)
 
 loop-again-5 : tie.Need-loop-again-5 Inv-loop μ-loop
 loop-again-5 c =
@@ -136,7 +154,8 @@ loop-again-5 c =
     let age = aged .age .ensures in
     let still = young-is-still _ _ (sym (c .before .may-stir .ensures) ∙ c .if2 .left) in
     let same = slot-as-it-was (l .1) noSlot h in
-    (omega arith, one-stays (l .1) noSlot h _ age (still-stays _ _ still), one-is-not-due (l .2) noSlot h _ same _ age (still .not-due))
+    let counts = one-neither (l .3) noSlot h _ same _ age (still .not-late) (still .not-due) in
+    (omega arith, one-stays (l .1) noSlot h _ age (still-stays _ _ still), one-is-not-due (l .2) noSlot h _ same _ age (still .not-due), counts)
 
 -- ── done ──
 same-length : tie.Need-same-length Inv-loop μ-loop
@@ -147,7 +166,7 @@ returns-2 c =
     let l = c .before .loop .inv in
     let node = all-lapsed (l .1) (c .loop-test .left) in
     let records = all-written (l .2) (c .loop-test .left) in
-    exact-and-unbounded _ _ _ _ (tick-done rolled _ _ (omega arith) _ (c .before .before .next .ensures) _ _ _ node records)
+    exact-and-unbounded _ _ _ _ (tick-done rolled _ _ (omega arith) _ (c .before .before .next .ensures) _ _ _ _ _ node records (all-counted (l .3) (c .loop-test .left)))
 
 pub tick-spec : {M : Type 1} → statement M
 tick-spec =
@@ -179,6 +198,7 @@ tick-spec =
     payload-end
     (λ c κs. search needs)
     add-at
+    add-delivered
     (λ c. search needs)
     loop-again
     (λ c. search needs)
@@ -187,6 +207,7 @@ tick-spec =
     (λ c κs. search needs)
     (λ c. search needs)
     (λ c. search needs)
+    add-dropped
     (λ c. search needs)
     loop-again-2
     (λ c κs. search needs)

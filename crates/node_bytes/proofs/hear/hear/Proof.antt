@@ -10,20 +10,23 @@ use denote.Ref.{now}
 use lib.ListN.{length, getD, take}
 use lib.Dec.{eqb}
 use Rattle.wire.specs.declared.ids.Parts.{Parts}
-use Rattle.wire.specs.declared.reply.Reply.the-variants.{Done, BadLength, BadFrame, NotMine, ShortOutput}
+use Rattle.wire.specs.declared.reply.Reply.the-variants.{Done, BadLength, NotMine, ShortOutput}
 use Rattle.wire.specs.Identifiers.{streamOf, codeOf}
-use Rattle.wire.specs.Frames.{maxPayload, badFrame}
+use Rattle.wire.specs.Frames.{maxPayload, isBare, frameRefusals}
+use Rattle.wire.proofs.Frames.{IsFrame}
+use Rattle.wire.specs.Refusals.{replyOf}
 use Rattle.node.specs.declared.slots.Slot.{Slot}
 use Rattle.node.specs.declared.Node.{Node}
 use Rattle.node.specs.Slots.{empty, isOf}
-use Rattle.node.specs.Nodes.{replyOf, asAnswered}
+use Rattle.node.specs.Told.{toldBy}
+use Rattle.node.specs.Nodes.{asAnswered}
 use Rattle.node.specs.Hear.{hearRoom, heardBy, deliveredAtOnce, slotHearRefusals}
 use Rattle.node.specs.Calls.{Call}
 use Rattle.node.proofs.slots.Finding.{indexOf}
-use Rattle.node.proofs.hear.Ways.{frame-splits, frame-whole, fits-at-once, short-output, bad-frame, no-slot, slot-refuses, heard}
+use Rattle.node.proofs.hear.Ways.{frame-splits, frame-whole, fits-at-once, short-output, no-frame, a-frame, no-slot, slot-refuses, heard}
 use Rattle.node_bytes.specs.Layout.{nodeSize}
 use Rattle.node_bytes.specs.Decoding.{decode}
-use Rattle.node_bytes.specs.LentCalls.{asWritten}
+use Rattle.node_bytes.specs.LentCalls.{asLentHeard}
 use Rattle.node_bytes.proofs.ByIndex.{decoded-slot, decoded-length, decoded-counter}
 use Rattle.node_bytes.proofs.Calling.{no-node, as-node, refusal-told, all-told, slot-put}
 use Rattle.node_bytes.proofs.hear.hear.Statement.{statement}
@@ -49,35 +52,47 @@ module _ (s : tie.Start) where
 returns : tie.Need-returns
 returns c =
     let s = c .before .before .before .before in
-    refusal-told (call s) (bytes s) asWritten (output s) BadLength (no-node (call s) (bytes s) (c .if1 .taken))
+    refusal-told (call s) (bytes s) asLentHeard (output s) BadLength (no-node (call s) (bytes s) (c .if1 .taken))
 
 returns-2 : tie.Need-returns-2
 returns-2 c =
     let s = c .before .before .before .before .before in
-    refusal-told (call s) (bytes s) asWritten (output s) ShortOutput
+    refusal-told (call s) (bytes s) asLentHeard (output s) ShortOutput
     (as-node (call s) (bytes s) (c .before .if1 .left) ∙ short-output _ _ _ _ (node s) (c .if2 .taken))
+
+-- the frame test answers as its refusals say
+module _ (c : tie.After-frame-reply) where
+  abbrev tested-at : tie.Start
+  tested-at = c .before .before .before .before .before .before .before
+
+  tested : c .frame-reply .result
+      ≡ replyOf (frameRefusals (isBare (tested-at .args .id)) (tested-at .args .id) (tested-at .args .dlc) (length (payload tested-at)))
+  tested = rw (c .before .is-bare .ensures) at (c .frame-reply .ensures)
 
 returns-3 : tie.Need-returns-3
 returns-3 c =
-    let b = c .before in
-    let s = b .before .before .before .before .before .before in
-    let bad = sym (b .bad-frame .ensures) ∙ c .if3 .taken in
-    refusal-told (call s) (bytes s) asWritten (output s) BadFrame
-    (as-node (call s) (bytes s) (b .before .before .if1 .left) ∙ bad-frame _ _ _ _ (node s) (b .before .if2 .left) bad)
+    let q = c .before in
+    let b = q .before in
+    let s = tested-at b in
+    let refuses = ap (λ (k : ℕ). eqb k 0) (sym (q .number .ensures)) ∙ ne-eqb _ _ (c .if3 .taken) in
+    refusal-told (call s) (bytes s) asLentHeard (output s) _
+    (as-node (call s) (bytes s) (b .before .before .before .if1 .left) ∙ no-frame _ _ _ _ (node s) (b .before .before .if2 .left) _ (tested b) refuses)
 
 -- ── a node, and a frame ──
 module _ (c : tie.Else3) where
   abbrev start : tie.Start
-  start = c .before .before .before .before .before .before .before
+  start = tested-at (c .before .before)
 
   whole : length (bytes start) ≡ nodeSize
-  whole = c .before .before .before .if1 .left
+  whole = c .before .before .before .before .before .if1 .left
 
   room : hearRoom ≤ length (output start)
-  room = c .before .before .if2 .left
+  room = c .before .before .before .before .if2 .left
 
-  good : badFrame (start .args .id) (start .args .dlc) (length (payload start)) ≡ false
-  good = sym (c .before .bad-frame .ensures) ∙ c .if3 .left
+  good : IsFrame (isBare (start .args .id)) (start .args .id) (start .args .dlc) (length (payload start))
+  good =
+      let taken = ap (λ (k : ℕ). eqb k 0) (sym (c .before .number .ensures)) ∙ eq-eqb _ _ (c .if3 .left) in
+      a-frame (start .args .id) (start .args .dlc) (payload start) (output start) (node start) room _ (tested (c .before .before)) taken
 
 abbrev parts : tie.Start → Parts
 parts s = record { reply = Done; stream = streamOf (s .args .id); code = codeOf (s .args .id) }
@@ -85,7 +100,7 @@ parts s = record { reply = Done; stream = streamOf (s .args .id); code = codeOf 
 splits : (c : tie.After-split) → c .split .result ≡ parts (start (c .before))
 splits c =
     let s = start (c .before) in
-    c .split .ensures ∙ frame-splits (s .args .id) (s .args .dlc) (length (payload s)) (good (c .before))
+    c .split .ensures ∙ frame-splits (isBare (s .args .id)) (s .args .id) (s .args .dlc) (length (payload s)) (good (c .before))
 
 abbrev split-at : tie.After-find → tie.After-split
 split-at c = c .before .before .before
@@ -98,7 +113,7 @@ returns-4 c =
     let f = c .before in
     let b = split-at f .before in
     let s = start b in
-    refusal-told (call s) (bytes s) asWritten (output s) NotMine
+    refusal-told (call s) (bytes s) asLentHeard (output s) NotMine
     (as-node (call s) (bytes s) (whole b) ∙ no-slot _ _ _ _ (node s) (room b) (good b) _ (found f) (omega (arith, decoded-length (bytes s))))
 
 -- ── the slot of its stream ──
@@ -135,14 +150,17 @@ returns-5 c =
     let o = a .before in
     let b = frame o in
     let s = start b in
-    let refuses = ap (λ (k : ℕ). eqb k 0) (sym (c .before .number .ensures)) ∙ ne-eqb _ _ (c .if5 .taken) in
-    refusal-told (call s) (bytes s) asWritten (output s) _
+    let refuses = ap (λ (k : ℕ). eqb k 0) (sym (c .before .number2 .ensures)) ∙ ne-eqb _ _ (c .if5 .taken) in
+    refusal-told (call s) (bytes s) asLentHeard (output s) _
     (as-node (call s) (bytes s) (whole b)
     ∙ slot-refuses _ _ _ _ (node s) (room b) (good b) _ (found (find-at o)) empty (inside o) _ (answers a) refuses)
 
+counter-of-requires : tie.Need-counter-of-requires
+counter-of-requires c κs = whole (frame (c .before .before .before .before .before))
+
 put-slot-requires : tie.Need-put-slot-requires
 put-slot-requires c κs =
-    let o = c .before .before .before .before .before .before .before in
+    let o = c .before .before .before .before .before .before .before .before in
     (whole (frame o), omega arith)
 
 -- ── it hears ──
@@ -152,22 +170,23 @@ returns-6 c =
     let w = c .before .before in
     let put = w .before .before .before .before in
     let h = put .before .before in
-    let q = h .before .before .before .before in
+    let q = h .before .before .before .before .before in
     let a = q .before in
     let o = a .before in
     let b = frame o in
     let s = start b in
     let p = splits (split-at (find-at o)) in
-    let takes = ap (λ (k : ℕ). eqb k 0) (sym (q .number .ensures)) ∙ eq-eqb _ _ (h .before .before .before .if5 .left) in
+    let takes = ap (λ (k : ℕ). eqb k 0) (sym (q .number2 .ensures)) ∙ eq-eqb _ _ (h .before .before .before .before .if5 .left) in
+    let told = said-of toldBy p (slot-of-node o) (h .before .before .before .told .ensures) in
     let changed =
     said-of (λ code x. heardBy (node s .counter) code (take maxPayload (payload s)) x) p (slot-of-node o)
     (rw (h .before .counter-of .ensures ∙ sym (decoded-counter (bytes s))) at (h .hear .ensures)) in
     let written =
-    rw (p, fits-at-once _ _ (payload s) (output s) (room b), frame-whole (s .args .id) (s .args .dlc) (payload s) (good b)) at
+    rw (p, fits-at-once _ _ (payload s) (output s) (room b), frame-whole (isBare (s .args .id)) (s .args .id) (s .args .dlc) (payload s) (good b)) at
     (w .deliver-plain .ensures) in
     let does = heard _ _ _ _ (node s) (room b) (good b) _ (found (find-at o)) empty (inside o) _ (answers a) takes changed in
-    all-told (call s) (bytes s) asWritten (output s) (as-node (call s) (bytes s) (whole b) ∙ does)
-    (rw (written .0))
+    all-told (call s) (bytes s) asLentHeard (output s) (as-node (call s) (bytes s) (whole b) ∙ does)
+    (rw (written .0, told))
     (written .1)
     (slot-put (call s) (bytes s) (whole b) _ _ (deliveredAtOnce (s .args .id) (payload s)) _ (ap asAnswered (sym does)) (put .put-slot .ensures) .1)
 
@@ -177,6 +196,8 @@ hear-spec =
     (tie.spec
     returns
     returns-2
+    (λ c κs. search needs)
+    (λ c κs. search needs)
     (λ c κs. search needs)
     returns-3
     (λ c κs. search needs)
@@ -189,6 +210,7 @@ hear-spec =
     (λ c. search needs)
     returns-5
     (λ c κs. search needs)
+    counter-of-requires
     (λ c κs. search needs)
     put-slot-requires
     (λ c κs. search needs)

@@ -1,8 +1,10 @@
 -- `next_frame` meets its contract: each return cites the way through the node's own call.
 use borrow.Author.Needs.{needs}
 use native.Mathlib.Omega.{arith}
+use mathlib.Core.Path.{ap}
 use denote.Ref.{now}
 use Rattle.wire.specs.declared.reply.Reply.the-variants.{ShortOutput, Nothing}
+use Rattle.node.specs.declared.slots.Slot.{Slot}
 use Rattle.node.proofs.next_frame.Ways.{short-output, none-pending}
 use Rattle.node_bytes.specs.Decoding.{decode}
 use Rattle.node_bytes.proofs.ByIndex.{decoded-length}
@@ -32,8 +34,9 @@ returns-3 c =
 
 put-pending-requires : tie.Need-put-pending-requires
 put-pending-requires c κs =
-    let found = c .before .before .before .before .before .before .before .before .before .before .before .before in
-    (found .before .before .before .before .if1 .left, omega arith)
+    let read = c .before .before .before .before .before .before .before .before .before .before in
+    let found = read .before .before in
+    (found .before .before .before .before .if1 .left, omega arith, ap (λ (x : Slot). x .pending) (read .slot-at .ensures))
 
 returns-4 : tie.Need-returns-4
 returns-4 c =

@@ -1,5 +1,5 @@
 -- `tick` meets its contract. The loop goes up through the slots, with those passed lapsed and their records written: a slot
--- that is due lapses and has its record written, one that is late or whose hold is over lapses, and the others stay.
+-- that is due is delivered, and another has lapsed.
 use borrow.Author.Needs.{needs}
 use native.Mathlib.Omega.{arith}
 use mathlib.Core.Path.{_≡_, sym, ap, _∙_}
@@ -11,22 +11,21 @@ use Rattle.wire.specs.Delivered.{littleEndian}
 use Rattle.node.specs.Slots.{empty}
 use Rattle.node.specs.Nodes.{slotCount}
 use Rattle.node.specs.Hear.{hearRoom}
-use Rattle.node.specs.Tick.{dropped, delivered, holdEnded}
 use Rattle.node.specs.Clock.{rolled}
-use Rattle.node.proofs.tick.Stirring.{due-is-delivered, late-is-dropped, over-is-ended}
-use Rattle.node.proofs.tick.OnePass.{writing-keeps-length, has-room, lent-within, written-is-small, one-is-written}
+use Rattle.node.proofs.tick.OnePass.{writing-keeps-length, has-room}
 use Rattle.node_bytes.specs.Layout.{counterAt, nodeSize}
 use Rattle.node_bytes.proofs.ByIndex.{decoded-counter}
-use Rattle.node_bytes.proofs.CallingTick.{message-put, parts-put, Ticking, ticking-at-first, slot-is-young, slot-stays, slot-lapses, slot-lapses-unwritten}
-use Rattle.node_bytes.proofs.CallingTick.{read-as-it-was, eight-bytes, tick-not-a-node, tick-refused, tick-is-done}
+use Rattle.node_bytes.proofs.CallingTick.{Ticking, ticking-at-first, one-at-most, not-due-lapses, record-is-small, due-lapses}
+use Rattle.node_bytes.proofs.CallingTick.{tick-not-a-node, tick-refused, tick-is-done}
 use Rattle.node_bytes.proofs.tick.tick.Statement.{statement}
 use Rattle.node_bytes.proofs.tick.tick.Tie as tie
 
 abbrev Inv-loop : tie.InvT-loop
-Inv-loop bytes₀ out₀ now at₀ passed₀ bytes out at passed = (passed ≤ slotCount) × Ticking now bytes₀ out₀ bytes out passed at
+Inv-loop bytes₀ out₀ now at₀ dropped₀ delivered₀ passed₀ bytes out at dropped delivered passed =
+    (passed ≤ slotCount) × Ticking now bytes₀ out₀ bytes out passed at dropped delivered
 
 abbrev μ-loop : tie.MeasureT-loop
-μ-loop bytes₀ out₀ now at₀ passed₀ bytes out at passed = slotCount - passed
+μ-loop bytes₀ out₀ now at₀ dropped₀ delivered₀ passed₀ bytes out at dropped delivered passed = slotCount - passed
 
 -- ── refused ──
 returns : tie.Need-returns Inv-loop μ-loop
@@ -57,109 +56,49 @@ room c = has-room (c .before .loop .inv .1 .writing) empty (c .loop-test .taken)
 inside : (c : tie.In-loop Inv-loop μ-loop) → (length (c .before .loop .bytes) ≡ nodeSize) × (c .before .loop .passed < slotCount)
 inside c = (c .before .loop .inv .1 .whole, c .loop-test .taken)
 
-payload-end : tie.Need-part-write-record-end-2 Inv-loop μ-loop
-payload-end c =
-    let counted = c .before .before in
-    let aged = counted .before .before .before .before .before .before .before .before .before .before in
-    let turn = aged .before .before .before .before .before .before in
-    let h = turn .loop-test .taken in
-    let t = turn .before .loop .inv .1 in
-    let there = aged .before .slot-at .ensures in
-    lent-within (t .writing) empty h _ (read-as-it-was t h _ there) _ (aged .age .ensures) _ (eight-bytes t h _ there) _ (counted .payload-length .ensures)
+deliver-at-requires : tie.Need-deliver-at-requires Inv-loop μ-loop
+deliver-at-requires c κs =
+    let asked = c .before .before .before .before .before in
+    let there = inside (asked .before .before) in
+    (asked .lapse-at .ensures .1 ∙ there .0, there .1)
 
 add-at : tie.Need-add-at Inv-loop μ-loop
 add-at c =
-    let counted = c .before .before .before .before .before .before in
-    let aged = counted .before .before .before .before .before .before .before .before .before .before in
-    let turn = aged .before .before .before .before .before .before in
-    let h = turn .loop-test .taken in
-    let t = turn .before .loop .inv .1 in
-    let there = aged .before .slot-at .ensures in
+    let wrote = c .before .before .before .before in
+    let tested = wrote .before .before .before in
+    let asked = tested .before .before .before in
+    let turn = asked .before .before in
     let small =
-    written-is-small (t .writing) empty h _ (read-as-it-was t h _ there) _ (aged .age .ensures) _ (eight-bytes t h _ there) _
-    (counted .payload-length .ensures) _ (c .before .before .write-record .ensures .0) in
+    record-is-small (turn .before .loop .inv .1) (turn .loop-test .taken) _ _ (asked .lapse-at .ensures) (tested .if3 .taken) _ _ _ (wrote .deliver-at .ensures) in
     omega (arith, room turn, small)
+
+add-delivered : tie.Need-add-delivered Inv-loop μ-loop
+add-delivered c =
+    let turn = c .before .before .before .before .before .before .before .before .before .before .before .before in
+    omega (arith, turn .before .loop .inv .1 .counting .few .1, turn .loop-test .taken)
 
 loop-again : tie.Need-loop-again Inv-loop μ-loop
 loop-again c =
-    let counted = c .before .before .before .before .before .before in
-    let put = counted .before .before .before .before .before in
-    let tested = put .before .before .before in
-    let aged = tested .before .before in
-    let turn = aged .before .before .before .before .before .before in
-    let h = turn .loop-test .taken in
-    let t = turn .before .loop .inv .1 in
-    let there = aged .before .slot-at .ensures in
-    let age = aged .age .ensures in
-    let due = sym (tested .before .due .ensures) ∙ tested .if4 .taken in
-    let made = put .before .before .delivered .ensures in
-    let stored = message-put _ _ _ h _ (put .put-message .ensures) _ (made ∙ ap delivered there) in
-    let writes =
-    one-is-written (t .writing) empty h _ (read-as-it-was t h _ there) _ age _ (eight-bytes t h _ there) _ (counted .payload-length .ensures) due _ _
-    (c .before .before .write-record .ensures) in
-    (omega arith, slot-lapses t h _ there _ age _ (made ∙ due-is-delivered _ _ due) _ stored writes)
+    let wrote = c .before .before .before .before in
+    let tested = wrote .before .before .before in
+    let asked = tested .before .before .before in
+    let turn = asked .before .before in
+    let next =
+    due-lapses (turn .before .loop .inv .1) (turn .loop-test .taken) _ _ (asked .lapse-at .ensures) (tested .if3 .taken) _ _ _ (wrote .deliver-at .ensures) in
+    (omega arith, next)
 
-put-pending-requires : tie.Need-put-pending-requires Inv-loop μ-loop
-put-pending-requires c κs =
-    let put = c .before .before .before in
-    let there = inside (put .before .before .before .before .before .before .before .before .before .before .before .before .before) in
-    (put .put-message2 .ensures .0 ∙ there .0, there .1)
+add-dropped : tie.Need-add-dropped Inv-loop μ-loop
+add-dropped c =
+    let asked = c .before .before .before in
+    let turn = asked .before .before in
+    let few = one-at-most (turn .before .loop .inv .1) (turn .loop-test .taken) _ _ (asked .lapse-at .ensures) (c .if3 .left) in
+    omega (arith, turn .before .loop .inv .1 .counting .few .0, turn .loop-test .taken, few)
 
 loop-again-2 : tie.Need-loop-again-2 Inv-loop μ-loop
 loop-again-2 c =
-    let put = c .before .before .before .before .before .before in
-    let asked = put .before .before .before in
-    let tested = asked .before .before in
-    let aged = tested .before .before in
-    let turn = aged .before .before .before .before .before .before in
-    let h = turn .loop-test .taken in
-    let there = aged .before .slot-at .ensures in
-    let not-due = sym (tested .before .due .ensures) ∙ tested .if4 .left in
-    let late = sym (asked .before .late .ensures) ∙ asked .if5 .taken in
-    let made = put .before .before .dropped .ensures in
-    let stored = parts-put _ _ _ h _ (put .put-message2 .ensures) _ (c .before .before .put-pending .ensures) _ _ (made ∙ ap dropped there) in
-    let next =
-    slot-lapses-unwritten (turn .before .loop .inv .1) h _ there _ (aged .age .ensures) _ (made ∙ late-is-dropped _ _ late) _ stored not-due in
-    (omega arith, next)
-
-loop-again-3 : tie.Need-loop-again-3 Inv-loop μ-loop
-loop-again-3 c =
-    let put = c .before .before in
-    let over = put .before .before .before in
-    let asked = over .before .before in
-    let tested = asked .before .before in
-    let aged = tested .before .before in
-    let turn = aged .before .before .before .before .before .before in
-    let h = turn .loop-test .taken in
-    let there = aged .before .slot-at .ensures in
-    let not-due = sym (tested .before .due .ensures) ∙ tested .if4 .left in
-    let not-late = sym (asked .before .late .ensures) ∙ asked .if5 .left in
-    let is-over = sym (over .before .hold-over .ensures) ∙ over .if6 .taken in
-    let made = put .before .before .hold-ended .ensures in
-    let stored = message-put _ _ _ h _ (put .put-message3 .ensures) _ (made ∙ ap holdEnded there) in
-    let next =
-    slot-lapses-unwritten (turn .before .loop .inv .1) h _ there _ (aged .age .ensures) _ (made ∙ over-is-ended _ _ not-late not-due is-over) _ stored not-due in
-    (omega arith, next)
-
-loop-again-4 : tie.Need-loop-again-4 Inv-loop μ-loop
-loop-again-4 c =
-    let asked = c .before .before in
-    let tested = asked .before .before in
-    let aged = tested .before .before in
-    let turn = aged .before .before .before .before .before .before in
-    let not-due = sym (tested .before .due .ensures) ∙ tested .if4 .left in
-    let not-late = sym (asked .before .late .ensures) ∙ asked .if5 .left in
-    let not-over = sym (c .before .hold-over .ensures) ∙ c .if6 .left in
-    let next =
-    slot-stays (turn .before .loop .inv .1) (turn .loop-test .taken) _ (aged .before .slot-at .ensures) _ (aged .age .ensures)
-    (record { not-late = not-late; not-due = not-due; not-over = not-over }) in
-    (omega arith, next)
-
-loop-again-5 : tie.Need-loop-again-5 Inv-loop μ-loop
-loop-again-5 c =
-    let turn = c .before .before .before in
-    let young = sym (c .before .may-stir-at .ensures) ∙ c .if3 .left in
-    (omega arith, slot-is-young (turn .before .loop .inv .1) (turn .loop-test .taken) young)
+    let asked = c .before .before .before in
+    let turn = asked .before .before in
+    (omega arith, not-due-lapses (turn .before .loop .inv .1) (turn .loop-test .taken) _ _ (asked .lapse-at .ensures) (c .if3 .left))
 
 -- ── done ──
 same-length : tie.Need-same-length Inv-loop μ-loop
@@ -194,37 +133,17 @@ tick-spec =
     loop-holds
     (λ c. search needs)
     (λ c κs. inside (c .before))
-    (λ c κs. inside (c .before .before .before .before))
-    (λ c κs. search needs)
-    (λ c κs. search needs)
-    (λ c κs. search needs)
-    (λ c κs. inside (c .before .before .before .before .before .before .before .before .before .before))
-    (λ c κs. search needs)
-    (λ c. omega (arith, room (c .before .before .before .before .before .before .before .before .before .before .before .before .before .before .before .before)))
-    (λ c. omega (arith, room (c .before .before .before .before .before .before .before .before .before .before .before .before .before .before .before .before)))
+    (λ c. omega (arith, room (c .before .before .before .before .before .before)))
+    (λ c. omega (arith, room (c .before .before .before .before .before .before)))
     (λ c. search needs)
-    (λ c. search needs)
-    (λ c. search needs)
-    payload-end
-    (λ c κs. search needs)
+    deliver-at-requires
     add-at
-    (λ c. omega (arith, inside (c .before .before .before .before .before .before .before .before .before .before .before .before .before .before .before .before .before .before .before .before .before .before)))
-    loop-again
-    (λ c κs. search needs)
-    (λ c κs. search needs)
-    (λ c κs. inside (c .before .before .before .before .before .before .before .before .before .before .before .before))
-    put-pending-requires
-    (λ c. omega (arith, inside (c .before .before .before .before .before .before .before .before .before .before .before .before .before .before .before .before .before .before .before)))
-    loop-again-2
-    (λ c κs. search needs)
-    (λ c κs. search needs)
-    (λ c κs. inside (c .before .before .before .before .before .before .before .before .before .before .before .before .before .before))
-    (λ c. omega (arith, inside (c .before .before .before .before .before .before .before .before .before .before .before .before .before .before .before .before .before)))
-    loop-again-3
+    add-delivered
     (λ c. omega (arith, inside (c .before .before .before .before .before .before .before .before .before .before .before .before)))
-    loop-again-4
-    (λ c. search needs)
-    loop-again-5
+    loop-again
+    add-dropped
+    (λ c. omega (arith, inside (c .before .before .before .before .before)))
+    loop-again-2
     same-length
     same-length-2
     returns-3)

@@ -1,13 +1,13 @@
--- `put_record` meets its contract. After the header the loop copies the payload byte by byte behind it: at its turn i
+-- `put_record` meets its contract. After the header a full payload is pasted at 8, or else the loop copies the payload byte by byte behind it: at its turn i
 -- the output is the one at the loop's start with the first i bytes pasted at 8.
 use borrow.Author.Needs.{needs}
 use native.Mathlib.Omega.{arith}
 use native.Mathlib.Numerals.{add-one}
-use mathlib.Core.Path.{_≡_, refl, ap, _∙_}
+use mathlib.Core.Path.{_≡_, refl, sym, ap, _∙_}
 use mathlib.Core.List.{List}
 use Prim.Native.Nat.{ℕ, _+_, _-_, _≤_}
 use lib.ListN.{length, getD, length-set}
-use lib.Seq.{sets, length-sets, paste, paste-zero, paste-suc}
+use lib.Seq.{sets, length-sets, paste, paste-zero, paste-suc, length-paste}
 use denote.Ref.{now}
 use Rattle.wire.proofs.Records.{header, stored-then-pasted}
 use Rattle.wire.proofs.delivered.put_record.Statement.{statement}
@@ -47,13 +47,40 @@ slice-write-out-7 c = simp length-set (omega arith)
 slice-write-out-8 : tie.Need-slice-write-out-8 Inv-loop μ-loop
 slice-write-out-8 c = simp length-set (omega arith)
 
+-- ── a full payload ──
+put-eight-requires : tie.Need-put-eight-requires Inv-loop μ-loop
+put-eight-requires c κs =
+    let full = c .before in
+    (omega (arith, header-keeps-length (full .before .before .before), full .if1 .taken), omega (arith, full .if1 .taken))
+
+same-length : tie.Need-same-length Inv-loop μ-loop
+same-length c =
+    let put = c .before .before in
+    let full = put .before .before in
+    let s = full .before .before .before in
+    let long = header-keeps-length s in
+    ap length (put .put-eight .ensures)
+    ∙ length-paste (with-header s) 8 (now (s .args .payload)) 8 (omega (arith, long, full .if1 .taken)) (omega (arith, full .if1 .taken)) ∙ long
+
+returns : tie.Need-returns Inv-loop μ-loop
+returns c =
+    let put = c .before .before in
+    let full = put .before .before in
+    let s = full .before .before .before in
+    let payload = now (s .args .payload) in (
+      refl,
+      put .put-eight .ensures ∙ ap (paste (with-header s) 8 payload) (sym (full .if1 .taken))
+          ∙ stored-then-pasted (s .args .stream) (now (s .args .out)) payload (s .args .n) (omega arith) (omega arith) (omega arith),
+    )
+
+-- ── a shorter one ──
 loop-holds : tie.Need-loop-holds Inv-loop μ-loop
-loop-holds c = (search needs, refl, paste-zero (with-header c) 8 (now (c .args .payload)))
+loop-holds c = let s = c .before .before .before in (search needs, refl, paste-zero (with-header s) 8 (now (s .args .payload)))
 
 loop-again : tie.Need-loop-again Inv-loop μ-loop
 loop-again c =
     let l = c .before .before in
-    let s = l .before in
+    let s = l .before .before .before .before in
     let payload = now (s .args .payload) in
     let i = l .loop .i in (
       omega arith,
@@ -62,16 +89,17 @@ loop-again c =
           (paste-suc (with-header s) 8 payload i 0 (omega (arith, header-keeps-length s)) (omega arith)),
     )
 
-same-length : tie.Need-same-length Inv-loop μ-loop
-same-length c = c .before .loop .inv .1 ∙ header-keeps-length (c .before .before)
+same-length-2 : tie.Need-same-length-2 Inv-loop μ-loop
+same-length-2 c = let l = c .before in l .loop .inv .1 ∙ header-keeps-length (l .before .before .before .before)
 
-returns : tie.Need-returns Inv-loop μ-loop
-returns c =
-    let s = c .before .before in
+returns-2 : tie.Need-returns-2 Inv-loop μ-loop
+returns-2 c =
+    let l = c .before in
+    let s = l .before .before .before .before in
     let payload = now (s .args .payload) in
-    let all : c .before .loop .i ≡ s .args .n = omega arith in (
+    let all : l .loop .i ≡ s .args .n = omega arith in (
       refl,
-      c .before .loop .inv .2 ∙ ap (paste (with-header s) 8 payload) all
+      l .loop .inv .2 ∙ ap (paste (with-header s) 8 payload) all
           ∙ stored-then-pasted (s .args .stream) (now (s .args .out)) payload (s .args .n) (omega arith) (omega arith) (omega arith),
     )
 
@@ -96,13 +124,17 @@ put-record-spec =
     slice-write-out-7
     (λ c. search needs)
     slice-write-out-8
+    put-eight-requires
+    (λ c. search needs)
+    same-length
+    returns
     loop-holds
     (λ c. search needs)
     (λ c. search needs)
-    (λ c. omega (arith, header-keeps-length (c .before .before .before)))
+    (λ c. omega (arith, header-keeps-length (c .before .before .before .before .before .before)))
     (λ c. search needs)
     (λ c. search needs)
     loop-again
     (λ c. search needs)
-    same-length
-    returns)
+    same-length-2
+    returns-2)

@@ -1,53 +1,32 @@
--- `Tally::place_of` meets its contract. The loop's invariant: the number's place is the place reached and what a search from there on finds.
-use mathlib.Core.Path.{_≡_, ap}
-use Prim.Native.Nat.{_+_, _-_, _≤_, _<_}
-use native.Mathlib.Numerals.{add-one}
+-- `Tally::place_of` meets its contract: the numbers that are counted are two runs.
+use mathlib.Core.Path.{sym}
+use mathlib.Core.Logic.{inl, inr}
 use native.Mathlib.Omega.{arith}
-use lib.ListN.{length, drop, drop-of-length-le}
 use borrow.Author.Needs.{needs}
-use Rattle.module.specs.Tallies.{counted, position}
-use Rattle.module.proofs.Places.{found, passed}
+use Rattle.module.proofs.Places.{in-first, in-second, in-none}
 use Rattle.module.proofs.tally.Tally.place_of.Statement.{statement}
 use Rattle.module.proofs.tally.Tally.place_of.Tie as tie
 
-abbrev Inv-loop : tie.InvT-loop
-Inv-loop number i₀ i = (i ≤ length counted) × (position number counted ≡ i + position number (drop i counted))
+returns : tie.Need-returns
+returns c = sym (in-first (c .before .args .number) (omega arith))
 
-abbrev μ-loop : tie.MeasureT-loop
-μ-loop number i₀ i = length counted - i
+returns-2 : tie.Need-returns-2
+returns-2 c = sym (in-none (c .before .before .args .number) (omega arith) (inl (omega arith)))
 
-loop-holds : tie.Need-loop-holds Inv-loop μ-loop
-loop-holds c = (omega arith, omega arith)
+returns-3 : tie.Need-returns-3
+returns-3 c = sym (in-second (c .before .before .before .args .number) (omega arith) (omega arith))
 
-returns : tie.Need-returns Inv-loop μ-loop
-returns c =
-    let inside : c .before .before .loop .i < length counted = omega arith in
-    omega (arith, found (c .before .before .before .args .number) counted (c .before .before .loop .i) inside (c .if1 .taken))
-
-loop-again : tie.Need-loop-again Inv-loop μ-loop
-loop-again c =
-    let inside : c .before .before .loop .i < length counted = omega arith in (
-      omega arith,
-      rw add-one (omega (arith, passed (c .before .before .before .args .number) counted (c .before .before .loop .i) inside (c .if1 .left))),
-    )
-
-returns-2 : tie.Need-returns-2 Inv-loop μ-loop
-unfolding position
-returns-2 c =
-    let all : length counted ≤ c .before .loop .i = omega arith in
-    omega (arith, ap (position (c .before .before .args .number)) (drop-of-length-le counted all))
+returns-4 : tie.Need-returns-4
+returns-4 c = sym (in-none (c .before .before .before .args .number) (omega arith) (inr (omega arith)))
 
 pub place-of-spec : {M : Type 1} → statement M
 place-of-spec =
     tie.close
     (tie.spec
-    Inv-loop
-    μ-loop
-    loop-holds
-    (λ c. search needs)
-    (λ c. search needs)
     returns
     (λ c. search needs)
-    (λ c. omega arith)
-    loop-again
-    returns-2)
+    returns-2
+    (λ c. search needs)
+    (λ c. search needs)
+    returns-3
+    returns-4)
