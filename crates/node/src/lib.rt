@@ -1,6 +1,8 @@
 // The node: one module's protocol state, and the five calls on it. Each call takes the whole node
 // and gives the whole node back, with a numbered reply. A call looks for slots in a loop of its own,
 // since a function that did so would be handed a copy of the node.
+#![tactic(auto)]
+
 ghost use Rattle.std.specs.Prelude.{◌≡◌};
 ghost use Rattle.node.specs.Nodes.{fresh};
 
@@ -19,7 +21,7 @@ pub mod told;
 
 // Fields in their order, as C has them.
 #[repr(C)]
-#[derive(Drop)]
+#[derive(Clone, Copy)]
 pub struct Node {
     pub slots: [Slot; Node::SLOTS],
     pub counter: u16,
@@ -43,14 +45,14 @@ impl Node {
 }
 
 // What set up and request answer.
-#[derive(Drop)]
+#[derive(Clone, Copy)]
 pub struct Answered {
     pub node: Node,
     pub reply: Reply,
 }
 
 // What hear answers: how many bytes of the output were written, and what the frame did.
-#[derive(Drop)]
+#[derive(Clone, Copy)]
 pub struct Heard {
     pub node: Node,
     pub reply: Reply,
@@ -59,7 +61,7 @@ pub struct Heard {
 }
 
 // What tick answers: how many bytes of the output were written, and how many messages were dropped and delivered.
-#[derive(Drop)]
+#[derive(Clone, Copy)]
 pub struct Ticked {
     pub node: Node,
     pub reply: Reply,
@@ -69,7 +71,7 @@ pub struct Ticked {
 }
 
 // What next frame answers: the frame's identifier, and the length of its payload.
-#[derive(Drop)]
+#[derive(Clone, Copy)]
 pub struct Given {
     pub node: Node,
     pub reply: Reply,

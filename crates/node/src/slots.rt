@@ -11,7 +11,7 @@ use wire::ids::Stream;
 use wire::settings::Settings;
 
 #[repr(C)]
-#[derive(Drop)]
+#[derive(Clone, Copy)]
 pub struct Message {
     // The counter when the message was taken up.
     pub stamp: u16,
@@ -104,7 +104,7 @@ pub fn pad(payload: &[u8]) -> [u8; Message::MAX_LEN]
 }
 
 #[repr(C)]
-#[derive(Drop)]
+#[derive(Clone, Copy)]
 pub struct Pending {
     // The frame with the payload: data, or the plain frame.
     pub payload: bool,
@@ -139,7 +139,7 @@ impl Pending {
 }
 
 #[repr(C)]
-#[derive(Drop)]
+#[derive(Clone, Copy)]
 pub struct Slot {
     pub stream: Stream,
     pub settings: Settings,

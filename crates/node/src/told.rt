@@ -4,7 +4,7 @@ ghost use Rattle.node.specs.Told.{told_number, told_by};
 
 use crate::slots::Slot;
 
-#[derive(Drop)]
+#[derive(Clone, Copy)]
 pub enum Told {
     Nothing,
     New,

@@ -8,7 +8,7 @@ use crate::frame::{MAX_PAYLOAD, at_most_payload};
 use crate::ids::Stream;
 use crate::reply::Reply;
 
-#[derive(Drop)]
+#[derive(Clone, Copy)]
 pub struct RecordLength {
     pub reply: Reply,
     pub length: u32,
@@ -113,7 +113,7 @@ fn put_eight(out: &mut [u8], at: usize, payload: &[u8])
 
 // What stands at a place of some bytes: a record, or none and why. Where there is none, every number
 // is 0.
-#[derive(Drop)]
+#[derive(Clone, Copy)]
 pub struct RecordAt {
     pub ok: bool,
     pub fault: Fault,
@@ -125,7 +125,7 @@ pub struct RecordAt {
     pub next: usize,
 }
 
-#[derive(Drop)]
+#[derive(Clone, Copy)]
 pub enum Fault {
     None,
     // Fewer than four bytes are left, or fewer than the length says.

@@ -5,10 +5,10 @@ ghost use Rattle.wire.specs.Identifiers.{join, split};
 use crate::reply::Reply;
 
 #[repr(C)]
-#[derive(Drop)]
+#[derive(Clone, Copy)]
 pub struct Stream(pub u32);
 
-#[derive(Drop)]
+#[derive(Clone, Copy)]
 pub struct BusId(pub u32);
 
 impl Stream {
@@ -21,13 +21,13 @@ impl BusId {
     pub const MAX: u32 = 536870911;
 }
 
-#[derive(Drop)]
+#[derive(Clone, Copy)]
 pub struct Joined {
     pub reply: Reply,
     pub id: BusId,
 }
 
-#[derive(Drop)]
+#[derive(Clone, Copy)]
 pub struct Parts {
     pub reply: Reply,
     pub stream: Stream,

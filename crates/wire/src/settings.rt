@@ -7,7 +7,7 @@ use crate::ids::Stream;
 // Made by the functions below, wherever they are made: a new field is added here and in
 // `specs/Settings.antt`.
 #[repr(C)]
-#[derive(Drop)]
+#[derive(Clone, Copy)]
 pub struct Settings {
     pub role: u8,
     pub class: u8,
