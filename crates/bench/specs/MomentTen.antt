@@ -35,7 +35,7 @@ logs b = map (λ (m : Module). m.log) b.modules
 
 -- on a proper plan the history keeps the rules, and this is what the modules deliver
 pub record Shows (plan : Plan) (h : List Event) (delivered : List (List Delivery)) : Type 0 where
-  pub set_up_call : proper plan ≡ true
+  pub set_up : proper plan ≡ true
   pub keeps_rules : keeps (start plan) h ≡ true
   pub delivers : logs (run (start plan) h) ≡ delivered
 

@@ -197,7 +197,7 @@ give_outs (e ∷ es) = one (gives_out e) + give_outs es
 -- a proper plan that was set up so, and a history that keeps the rules and gives out no more frames than are kept
 pub record Allowed (plan : Plan) (xs : SetUps) (h : List Event) : Type 0 where
   pub is_proper : T (proper plan)
-  pub set_up_call : SetsUp xs plan
+  pub set_up : SetsUp xs plan
   pub keeps_rules : T (keeps_so_far (start plan) h)
   pub enough_room : give_outs h ≤ capacity
 

@@ -1,10 +1,9 @@
 -- The worked reports; a report's numbers are distinct; as many messages are delivered as records are written.
-use Rattle.std.proofs.Common.{◌≡◌, ℕ, ◌+◌, Bool, true, false, cond, List, [], ◌∷◌, length, refl, arith}
+use Rattle.std.proofs.Common.{◌≡◌, ◌+◌, Bool, true, false, cond, [], ◌∷◌, length, refl, arith}
 use Rattle.wire.specs.Classes.{carries}
 use Rattle.wire.specs.Identifiers.{join}
 use Rattle.wire.specs.Settings.{legal}
 use Rattle.wire.proofs.Variants.{told_apart}
-use Rattle.node.specs.declared.slots.Slot.{Slot}
 use Rattle.node.specs.declared.told.Told.{Told}
 use Rattle.node.specs.Slots.{same_bytes, first, on_first, some, many}
 use Rattle.node.specs.Told.{told_number, told_by}

@@ -1,5 +1,5 @@
 -- A request to send: the replies BadLength, NotSender, Busy, in this order.
-use Rattle.std.specs.Prelude.{ℕ, Bool, true, false, cond, not, ◌||◌, List, [], ◌∷◌, length, nat_lt}
+use Rattle.std.specs.Prelude.{ℕ, Bool, cond, not, ◌||◌, List, [], ◌∷◌, length, nat_lt}
 use Rattle.wire.specs.declared.ids.Stream.{Stream}
 use Rattle.wire.specs.declared.reply.Reply.TheVariants.{BadLength, NotSender, Busy}
 use Rattle.wire.specs.Settings.{is_plain, is_two_message}

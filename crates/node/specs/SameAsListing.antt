@@ -119,7 +119,7 @@ Fair now x (gives ∷ es) = Fair now (given_out 2 x) es
 pub record TwoMessageReceiver (x : Slot) : Type 0 where
   pub used : x.used ≡ true
   pub receiver : receives x.settings ≡ true
-  pub two_message_on_bench : is_two_message x.settings ≡ true
+  pub two_message : is_two_message x.settings ≡ true
 
 -- THE LISTING: in every fair history the slot shows what the listing shows
 abbrev pub SameAsListing : Type 0

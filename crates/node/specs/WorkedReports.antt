@@ -1,6 +1,6 @@
 -- Worked reports: whatever a frame can do is told by some call, and what ticks drop and deliver; stream 5 of the worked moments, and a
 -- stream of plain frames.
-use Rattle.std.specs.Prelude.{◌≡◌, ℕ, List, [], ◌∷◌, ◌++◌, map, length, replicate}
+use Rattle.std.specs.Prelude.{◌≡◌, ℕ, List, [], ◌∷◌, map, length, replicate}
 use Rattle.wire.specs.Settings.{of_plain, of_imd}
 use Rattle.node.specs.declared.slots.Slot.{Slot}
 use Rattle.node.specs.declared.told.Told.TheVariants.{New, Duplicate, Confirmed, ConfirmedAgain, AbortPending, Dropped, NothingToDrop, Delivered}

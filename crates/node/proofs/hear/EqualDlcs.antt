@@ -1,5 +1,5 @@
 -- DLC 8 to 15 are one to a node: the frame test alone looks at the DLC, and what is held is as long as the payload.
-use Rattle.std.proofs.Common.{◌≡◌, ℕ, ◌≤◌, Bool, true, false, not, ◌&&◌, eqb, ltb, List, [], ◌∷◌, ◌++◌, length, drop, replicate, sym, refl, ap, ◌∙◌, subst, eq-eqb, eqb-true}
+use Rattle.std.proofs.Common.{◌≡◌, ℕ, ◌≤◌, Bool, true, false, not, ◌&&◌, eqb, ltb, List, [], ◌∷◌, ◌++◌, length, drop, replicate, sym, refl, ap, ◌∙◌, eq-eqb, eqb-true}
 use mathlib.Core.Bool.{and-eq-true_iff}
 use lib.Seq.{take-append_seam}
 use borrow.Author.Tests.{not-false}
@@ -14,7 +14,7 @@ use Rattle.wire.specs.Classes.{carries}
 use Rattle.wire.specs.Frames.{max_payload, max_dlc, bytes_of_dlc, is_bare}
 use Rattle.node.specs.declared.slots.Slot.{Slot}
 use Rattle.node.specs.declared.Node.{Node}
-use Rattle.node.specs.Slots.{holding, restamped, same_bytes, same, with_message}
+use Rattle.node.specs.Slots.{holding, same_bytes, same}
 use Rattle.node.specs.Nodes.{slot_of, Outcome, unless_refused}
 use Rattle.node.specs.Hear.{hear_room, clashes, heard_by, slot_hear_refusals, hear}
 use Rattle.node.specs.EqualDlcs.{HeardAlike, HeldAsMeant, Duplicate, HeardAgain}

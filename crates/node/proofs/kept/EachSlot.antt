@@ -168,7 +168,7 @@ module _ (age : ℕ) (x : Slot) (used : x.used ≡ true) (held : x.message.held 
   waiting_bound : receives x.settings ≡ true → is_two_message x.settings ≡ true → x.message.confirmed ≡ false
       → late age x ≡ false → ¬ (x.settings.dc < age)
   waiting_bound r two c e h =
-      contrary ((late_tells age x).back (record { used = used; receiver = r; held = held; two_message_on_bench = two; unconfirmed = c; over = h })) e
+      contrary ((late_tells age x).back (record { used = used; receiver = r; held = held; two_message = two; unconfirmed = c; over = h })) e
 
   settled_bound : receives x.settings ≡ true → Settled x → due age x ≡ false → ¬ (x.settings.dd < age)
   settled_bound r settled e h =

@@ -143,7 +143,7 @@ module _ (now : ℕ) (x : Slot) (used : x.used ≡ true) (r : receives x.setting
 record TwoReceiver (k : Kind) : Type 0 where
   pub used : k.used ≡ true
   pub receiver : receives k.settings ≡ true
-  pub two_message_on_bench : is_two_message k.settings ≡ true
+  pub two_message : is_two_message k.settings ≡ true
 
 abbrev intervals_of : Kind → Intervals
 intervals_of k = record { to_confirm = k.settings.dc; to_deliver = k.settings.dd }
@@ -182,7 +182,7 @@ by_kind (Event.gives ∷ es) now x t fair = ap (λ l. record { delivered = []; a
 
 pub same_as_listing : SameAsListing
 same_as_listing es now x t fair =
-    by_kind es now x (record { used = t.used; receiver = t.receiver; two_message_on_bench = t.two_message }) fair
+    by_kind es now x (record { used = t.used; receiver = t.receiver; two_message = t.two_message }) fair
 
 -- ── sending ──
 pub sends_as_listing : SendsAsListing

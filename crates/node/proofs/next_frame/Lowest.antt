@@ -1,5 +1,5 @@
 -- What a slot's pending frames have: which codes, the lowest of them, their identifiers, and whose they are.
-use Rattle.std.proofs.Common.{◌≡◌, ℕ, ◌+◌, ◌*◌, ◌/◌, ◌≤◌, min, Bool, true, false, cond, not, ◌&&◌, ◌||◌, leb, List, [], ◌∷◌, ◌++◌, sym, refl, ap, ◌∙◌, subst, ⊎_elim, arith, eq-eqb, le-leb, leb-false, leb-true}
+use Rattle.std.proofs.Common.{◌≡◌, ℕ, ◌+◌, ◌*◌, ◌/◌, ◌≤◌, min, Bool, true, false, cond, not, ◌&&◌, ◌||◌, leb, List, [], ◌∷◌, ◌++◌, refl, ap, ◌∙◌, subst, ⊎_elim, arith, eq-eqb, le-leb, leb-false, leb-true}
 use mathlib.Core.Bool.{and-eq-true_iff}
 use mathlib.Core.List.Memᴰ
 use mathlib.Core.List.{Memᴰ}
@@ -149,7 +149,7 @@ from_codes stream (code ∷ codes) i small m =
 
 -- a pending identifier is in range, and its stream has a slot
 pub record FromSlot (i : ℕ) (x : Slot) : Type 0 where
-  pub in_range_law : i ≤ max_bus_id
+  pub in_range : i ≤ max_bus_id
   pub of_stream : is_of (stream_of (record { 0 = i })) x ≡ true
 
 pub pending_from_slot : (x : Slot) {i : ℕ} → Memᴰ i (pending_in x) → FromSlot i x
@@ -162,6 +162,6 @@ pending_from_slot x {i} m = go x.used refl (leb x.stream.0 max_stream) refl m
         let range = from_codes x.stream.0 (pending_codes x) i (code_at_most_three x) m in
         let small = leb-true x.stream.0 max_stream s in
         let stream : x.stream.0 ≡ i / 4 = omega arith in
-        record { in_range_law = omega arith; of_stream = rw (u, eq-eqb x.stream.0 (i / 4) stream) }
+        record { in_range = omega arith; of_stream = rw (u, eq-eqb x.stream.0 (i / 4) stream) }
     go true u false s m = absurd (Memᴰ.not-nil m)
     go false u small s m = absurd (Memᴰ.not-nil m)

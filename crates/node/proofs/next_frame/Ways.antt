@@ -1,5 +1,5 @@
 -- The ways through the next frame: on each of them what is answered is what the definition says.
-use Rattle.std.proofs.Common.{◌≡◌, ℕ, ◌<◌, ◌≤◌, true, not, List, length, get_or, set, sym, ap, ◌∙◌, arith, le-ltb, lt-ltb}
+use Rattle.std.proofs.Common.{◌≡◌, ℕ, ◌<◌, ◌≤◌, true, not, List, length, get_or, set, sym, ap, arith, le-ltb, lt-ltb}
 use Rattle.wire.specs.declared.reply.Reply.{Reply}
 use Rattle.wire.specs.declared.reply.Reply.TheVariants.{Done, ShortOutput, Nothing}
 use Rattle.wire.specs.declared.ids.Joined.{Joined}

@@ -1,5 +1,5 @@
 -- Putting a slot in its place: where it is to stand, and how the slots from there on move up.
-use Rattle.std.proofs.Common.{◌≡◌, ℕ, zero, suc, ◌+◌, ◌-◌, ◌<◌, ◌≤◌, Bool, true, false, cond, ◌||◌, ltb, ◌⊎◌, List, [], ◌∷◌, length, get_or, set, refl, ap, ⊎_elim, arith, le-ltb, lt-ltb}
+use Rattle.std.proofs.Common.{◌≡◌, ℕ, zero, suc, ◌+◌, ◌-◌, ◌<◌, ◌≤◌, Bool, true, false, cond, ◌||◌, ltb, List, [], ◌∷◌, length, get_or, set, refl, ap, arith, le-ltb, lt-ltb}
 use Rattle.wire.specs.declared.ids.Stream.{Stream}
 use Rattle.node.specs.declared.slots.Slot.{Slot}
 use Rattle.node.specs.declared.Node.{Node}
@@ -19,13 +19,11 @@ module _ (s : Stream) (l : List Slot) (i j : ℕ) (d : Slot) (free : i ≡ index
       not_here (is_after s) l j d (omega arith) none (rw (before_first is_free l j d (omega arith), le-ltb _ _ not_higher))
 
   -- at the first free slot, or at one with a higher stream before it
-  pub place_found : {A B : Type 0} → (A → j ≡ i) → (B → (j < i) × (s.0 < (get_or l j d).stream.0)) → A ⊎ B → j ≡ index_of (is_after s) l
-  place_found at_free at_higher =
-      ⊎_elim
-      (λ a. let same = at_free a in found_here (is_after s) l j d (omega arith) none (rw (same, free, (found is_free l (omega arith)).holds d)))
-      (λ b.
-      let (before, higher) = at_higher b in
-      found_here (is_after s) l j d (omega arith) none (rw (before_first is_free l j d (omega arith), lt-ltb _ _ higher)))
+  pub place_at_free : j ≡ i → j ≡ index_of (is_after s) l
+  place_at_free same = found_here (is_after s) l j d (omega arith) none (rw (same, free, (found is_free l (omega arith)).holds d))
+
+  pub place_before : j < i → s.0 < (get_or l j d).stream.0 → j ≡ index_of (is_after s) l
+  place_before before higher = found_here (is_after s) l j d (omega arith) none (rw (before_first is_free l j d (omega arith), lt-ltb _ _ higher))
 
 -- ── the slots from a place on, moved up to the first free one; at that place the old slot is still there ──
 unfoldable pub moved_up : (k : ℕ) → List Slot → List Slot

@@ -1,5 +1,5 @@
 -- Slots in another order: what `some`, `first`, `onFirst` and `map` make of them, and what all of them keep.
-use Rattle.std.proofs.Common.{◌≡◌, Bool, true, false, cond, ◌||◌, List, [], ◌∷◌, sym, refl, ap, ◌∙◌}
+use Rattle.std.proofs.Common.{◌≡◌, Bool, true, false, cond, ◌||◌, List, [], ◌∷◌, sym, refl, ap, ◌∙◌, subst}
 use mathlib.Core.List.Permᴰ
 use mathlib.Core.List.{Permᴰ}
 use Rattle.node.specs.declared.slots.Slot.{Slot}
@@ -37,8 +37,9 @@ module _ (test : Slot → Bool) where
   alike_reordered : {xs ys : List Slot} → Permᴰ xs ys → Alike xs → Alike ys
   alike_reordered Permᴰ.nil alike = alike
   alike_reordered (Permᴰ.cons e d) alike = (rw (← e) (all_reordered (Both _) d alike.0), alike_reordered d alike.1)
-  alike_reordered (Permᴰ.swap e₁ e₂) alike =
-      rw (← e₁, ← e₂) ((λ p q. sym (alike.0.0 q p), alike.1.0), (alike.0.1, alike.1.1))
+  alike_reordered (Permᴰ.swap {a = a} {b = b} {a' = a'} {b' = b'} {l = l} e₁ e₂) alike =
+      subst (λ (x : Slot). Alike (a' ∷ x ∷ l)) e₁
+      (subst (λ (y : Slot). Alike (y ∷ a ∷ l)) e₂ ((λ p q. sym (alike.0.0 q p), alike.1.0), (alike.0.1, alike.1.1)))
   alike_reordered (Permᴰ.trans d₁ d₂) alike = alike_reordered d₂ (alike_reordered d₁ alike)
 
   -- the first is the same one

@@ -1,5 +1,5 @@
 -- Settled slots: a test for a stream or for a free slot is true of one kind of slot alone; they are settled in every order, and after every change.
-use Rattle.std.proofs.Common.{◌≡◌, ℕ, Bool, true, false, List, [], ◌∷◌, map, sym, refl, ap, ◌∙◌, ne_eqb, eqb-true}
+use Rattle.std.proofs.Common.{◌≡◌, ℕ, Bool, true, false, List, [], ◌∷◌, map, sym, refl, ap, ◌∙◌, subst, ne_eqb, eqb-true}
 use mathlib.Core.Bool.{and-eq-true_iff}
 use mathlib.Core.List.{Permᴰ}
 use borrow.Author.Tests.{eqb-false, not-true}
@@ -51,8 +51,10 @@ unfolding some
 distinct_reordered Permᴰ.nil ds = ds
 distinct_reordered (Permᴰ.cons {a} e d) ds =
     rw (← e) (λ used. sym (some_reordered (is_of a.stream) d) ∙ ds.0 used, distinct_reordered d ds.1)
-distinct_reordered (Permᴰ.swap {a} {b} {l = l} e₁ e₂) ds =
-    rw (← e₁, ← e₂) (λ used. rw (other a.used refl used) (ds.1.0 used), (λ used. (neither (is_of a.stream b) _ (ds.0 used)).1, ds.1.1))
+distinct_reordered (Permᴰ.swap {a = a} {b = b} {a' = a'} {b' = b'} {l = l} e₁ e₂) ds =
+    subst (λ (x : Slot). Distinct (a' ∷ x ∷ l)) e₁
+    (subst (λ (y : Slot). Distinct (y ∷ a ∷ l)) e₂
+    (λ used. rw (other a.used refl used) (ds.1.0 used), (λ used. (neither (is_of a.stream b) _ (ds.0 used)).1, ds.1.1)))
   where
     other : (u : Bool) → a.used ≡ u → b.used ≡ true → is_of b.stream a ≡ false
     other true e used =

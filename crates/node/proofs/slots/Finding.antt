@@ -1,6 +1,6 @@
 -- Finding a slot by its index: what stands there is the first slot of which the test is true, and where the index is
 -- the table's length there is none. Also a turn of the loop that finds it, from the front of the table on.
-use Rattle.std.proofs.Common.{◌≡◌, ℕ, zero, suc, ◌+◌, ◌<◌, ◌≤◌, Bool, true, false, cond, ◌⊎◌, List, [], ◌∷◌, map, length, get_or, drop, set, sym, refl, ap, ◌∙◌, ⊎_elim, add-one, arith, drop_of_length-le, drop-cons}
+use Rattle.std.proofs.Common.{◌≡◌, ℕ, zero, suc, ◌+◌, ◌<◌, ◌≤◌, Bool, true, false, cond, List, [], ◌∷◌, map, length, get_or, drop, set, sym, refl, ap, ◌∙◌, add-one, arith, drop_of_length-le, drop-cons}
 use lib.ListN.{length-map}
 use Rattle.wire.specs.declared.ids.Stream.{Stream}
 use Rattle.node.specs.declared.slots.Slot.{Slot}
@@ -107,12 +107,6 @@ module _ (test : Slot → Bool) where
     pub not_here : test (get_or l i d) ≡ false → NoneBefore l (i + 1)
     unfolding index_of
     not_here e = rw add-one (omega (arith, rw (drop-cons l i d inside, e) at none))
-
-  -- it ends past the table, or at a slot of which the test is true
-  pub search_ends : (l : List Slot) (i : ℕ) (d : Slot) {A B : Type 0} → NoneBefore l i → (A → length l ≤ i)
-      → (B → (i < length l) × (test (get_or l i d) ≡ true)) → A ⊎ B → i ≡ index_of test l
-  search_ends l i d none past here =
-      ⊎_elim (λ a. found_nowhere l i (past a) none) (λ b. let h = here b in found_here l i d h.0 none h.1)
 
 -- ── the slot of a stream, found in the node's table ──
 module _ (n : Node) (s : Stream) (i : ℕ) (at_index : i ≡ index_of (is_of s) n.slots) where

@@ -11,7 +11,7 @@ pub record Late (age : ℕ) (x : Slot) : Type 0 where
   pub used : x.used ≡ true
   pub receiver : receives x.settings ≡ true
   pub held : x.message.held ≡ true
-  pub two_message_on_bench : is_two_message x.settings ≡ true
+  pub two_message : is_two_message x.settings ≡ true
   pub unconfirmed : x.message.confirmed ≡ false
   pub over : x.settings.dc < age
 
@@ -50,7 +50,7 @@ module _ (age : ℕ) (x : Slot) where
         says = λ e.
             let h = t.says e in
             let r = h.0.0.0 in
-            record { used = r.0.0; receiver = r.0.1; held = r.1; two_message_on_bench = h.0.0.1; unconfirmed = h.0.1; over = h.1 };
+            record { used = r.0.0; receiver = r.0.1; held = r.1; two_message = h.0.0.1; unconfirmed = h.0.1; over = h.1 };
         back = λ k. t.back (((((k.used, k.receiver), k.held), k.two_message), k.unconfirmed), k.over);
       }
 
