@@ -1,11 +1,11 @@
 -- A slot at a tick, in the bytes: which of the three tests fail by its role and class, and what is left of it.
-use mathlib.Core.Path.{◌≡◌, refl, sym, ap, ◌∙◌}
+use mathlib.Core.Path.{◌≡◌, refl, sym, ap}
 use mathlib.Core.Bool.{Bool, true, false, cond, and-false}
 use mathlib.Core.List.{List}
 use Prim.Native.Nat.{ℕ, ◌+◌, ◌*◌, ◌≤◌, ◌<◌}
 use native.Mathlib.Omega.{arith}
 use borrow.Author.Tests.{eq-eqb, ne_eqb, eqb-true}
-use lib.ListN.{length, get_or, set}
+use lib.ListN.{length, set}
 use lib.Seq.{set-get_or}
 use Rattle.wire.specs.Settings.{receives, is_imd, is_two_message}
 use Rattle.node.specs.declared.slots.Slot.{Slot}

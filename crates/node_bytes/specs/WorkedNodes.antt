@@ -1,5 +1,5 @@
 -- Worked bytes: a slot there and back, bytes that no call wrote, a store and a refusal.
-use Rattle.std.specs.Prelude.{ℕ, ◌+◌, ◌≡◌, true, false, List, [], ◌∷◌, ◌++◌, get_or, replicate}
+use Rattle.std.specs.Prelude.{ℕ, ◌≡◌, true, false, List, [], ◌∷◌, ◌++◌, get_or, replicate}
 use Rattle.wire.specs.declared.reply.Reply.TheVariants.{Done, BadLength}
 use Rattle.wire.specs.Settings.{settings, of_two_message}
 use Rattle.wire.specs.Frames.{max_payload}

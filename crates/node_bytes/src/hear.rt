@@ -16,7 +16,7 @@ use wire::ids::BusId;
 use wire::reply::Reply;
 
 // What hear answers: how many bytes of the output were written, and what the frame did.
-#[derive(Drop)]
+#[derive(Clone, Copy)]
 pub struct LentHeard {
     pub reply: Reply,
     pub written: usize,

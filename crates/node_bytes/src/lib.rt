@@ -28,6 +28,7 @@
 //
 // A call answers, and leaves, what the node's own call does to the node that the bytes are. It
 // decodes the one slot that it is about, takes the step that `node` has for it, and stores it.
+#![tactic(auto)]
 
 pub mod counter;
 mod finding;

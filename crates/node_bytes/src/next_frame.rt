@@ -13,7 +13,7 @@ use wire::ids::BusId;
 use wire::reply::Reply;
 
 // The frame's identifier, and the length of its payload.
-#[derive(Drop)]
+#[derive(Clone, Copy)]
 pub struct GivenOut {
     pub reply: Reply,
     pub id: BusId,

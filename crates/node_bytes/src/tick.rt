@@ -22,7 +22,7 @@ use wire::delivered::write_record;
 use wire::reply::Reply;
 
 // What tick answers: how many bytes of the output were written, and how many messages were dropped and delivered.
-#[derive(Drop)]
+#[derive(Clone, Copy)]
 pub struct LentTicked {
     pub reply: Reply,
     pub written: usize,
