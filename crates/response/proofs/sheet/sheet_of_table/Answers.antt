@@ -36,37 +36,42 @@ returns-then-len-gt64 c =
 
 pub returns-then-not-legal-legal_records : goal.returns-then-not-legal-legal_records
 returns-then-not-legal-legal_records c =
+    let small : c.args.len ≤ 64 = omega (arith, c.if-len-gt64.false) in
     let long : length c.args.table.streams ≡ 65 = search (rules, length_of_mapped) in
     one_not_legal _ _ _ (rw (c.legal_records.ensures, c.legal.ensures) at c.if-not-legal-legal_records.true)
-    (few c.args.table c.args.len long c.if-len-gt64.false)
+    (few c.args.table c.args.len long small)
 
 pub returns-then-out-len : goal.returns-then-out-len
 returns-then-out-len c =
+    let small : c.args.len ≤ 64 = omega (arith, c.if-len-gt64.false) in
     let long : length c.args.table.streams ≡ 65 = search (rules, length_of_mapped) in
     let good = rw (c.legal_records.ensures, c.legal.ensures) at c.if-not-legal-legal_records.false in
-    too_short _ _ _ (ok c.args.table c.args.len long c.if-len-gt64.false c.args.errors good)
-    (rw (listed c.args.table c.args.len long c.if-len-gt64.false) c.if-out-len.true)
+    too_short _ _ _ (ok c.args.table c.args.len long small c.args.errors good)
+    (rw (listed c.args.table c.args.len long small) c.if-out-len.true)
 
 pub solve-solved-requires : goal.solve-solved-requires
 solve-solved-requires c =
+    let small : c.args.len ≤ 64 = omega (arith, c.if-len-gt64.false) in
     let good = rw (c.legal_records.ensures, c.legal.ensures) at c.if-not-legal-legal_records.false in
-    let (e, r) = both_true _ _ good in (c.if-len-gt64.false, r, e)
+    let (e, r) = both_true _ _ good in (small, r, e)
 
 pub returns-then-late-len : goal.returns-then-late-len
 returns-then-late-len c =
+    let small : c.args.len ≤ 64 = omega (arith, c.if-len-gt64.false) in
     let long : length c.args.table.streams ≡ 65 = search (rules, length_of_mapped) in
     let good = rw (c.legal_records.ensures, c.legal.ensures) at c.if-not-legal-legal_records.false in
-    let is_listed = listed c.args.table c.args.len long c.if-len-gt64.false in
+    let is_listed = listed c.args.table c.args.len long small in
     rw c.solve-solved.ensures.0
-    (some_late _ _ _ (ok c.args.table c.args.len long c.if-len-gt64.false c.args.errors good) (rw is_listed c.if-out-len.false)
+    (some_late _ _ _ (ok c.args.table c.args.len long small c.args.errors good) (rw is_listed c.if-out-len.false)
     (omega (arith, c.if-late-len.true, c.solve-solved.ensures.0, is_listed)))
 
 pub returns : goal.returns
 returns c =
+    let small : c.args.len ≤ 64 = omega (arith, c.if-len-gt64.false) in
     let long : length c.args.table.streams ≡ 65 = search (rules, length_of_mapped) in
     let good = rw (c.legal_records.ensures, c.legal.ensures) at c.if-not-legal-legal_records.false in
-    let is_listed = listed c.args.table c.args.len long c.if-len-gt64.false in
+    let is_listed = listed c.args.table c.args.len long small in
     let solved = c.solve-solved in
-    all_written _ _ _ (ok c.args.table c.args.len long c.if-len-gt64.false c.args.errors good) (rw is_listed c.if-out-len.false)
+    all_written _ _ _ (ok c.args.table c.args.len long small c.args.errors good) (rw is_listed c.if-out-len.false)
     solved.result.late solved.result.times _ solved.ensures.0
     (omega (arith, c.if-late-len.false, is_listed)) solved.ensures.1 (rw is_listed c.write.ensures)
