@@ -34,7 +34,7 @@ one_more streams i s table e e₁ = e ∙ ap (with_stream (filled streams i) i) 
 
 module _ (streams : List StreamRecord) (i : ℕ) where
   pub more_to_go : (ltb i (length streams) && ltb i places) ≡ true → i < goes_in streams
-  more_to_go e = let (a, b) = both_true _ _ e in omega (arith, ltb-true i (length streams) a, ltb-true i places b)
+  more_to_go e = let both = both_true (ltb i (length streams)) (ltb i places) e in omega (arith, ltb-true i (length streams) both.0, ltb-true i places both.1)
 
   pub none_to_go : (ltb i (length streams) && ltb i places) ≡ false → goes_in streams ≤ i
   none_to_go e = by_test (ltb i (length streams)) refl e

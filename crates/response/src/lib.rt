@@ -1,6 +1,8 @@
 // The response-time sheet: how long the messages of each stream wait for the bus at worst, after
 // equations (2) to (4) and (8) to (10) of Reliable Real-Time Communication in CAN Networks, in whole
 // bit times with the bit as 1.
+#![tactic(auto)]
+
 pub mod lent;
 mod recurrence;
 mod sheet;

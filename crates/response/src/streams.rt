@@ -2,7 +2,7 @@
 ghost use Rattle.std.specs.Prelude.{◌≡◌};
 ghost use Rattle.response.specs.Streams.{in_range, legal_record, legal_errors};
 
-#[derive(Drop)]
+#[derive(Clone, Copy)]
 pub struct StreamRecord {
     // The lower number goes first on the bus.
     pub priority: u32,
@@ -15,7 +15,7 @@ pub struct StreamRecord {
 }
 
 // Up to n errors in each period, each of which keeps the bus from everybody for a time.
-#[derive(Drop)]
+#[derive(Clone, Copy)]
 pub struct Errors {
     pub n: u32,
     pub period: u32,

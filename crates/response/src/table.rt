@@ -7,7 +7,7 @@ use crate::streams::StreamRecord;
 
 // The list's first records. There is one place more than a list may have streams, so that too long
 // a list is still too long here.
-#[derive(Drop)]
+#[derive(Clone, Copy)]
 pub struct Table {
     pub streams: [StreamRecord; 65],
 }

@@ -1,0 +1,27 @@
+-- `legal_records` meets its contract: the loop goes from the back, and its test is that of the records from k on.
+use Rattle.response.proofs.Listed.{length_of_mapped, previous_listed, none_left}
+use Rattle.response.specs.Streams.{legal_records}
+use lib.ListN.{length}
+use native.Mathlib.Omega.{arith}
+use borrow.Author.Rules.{rules}
+use Prim.Native.Nat.{◌≤◌}
+use mathlib.Core.Path.{◌≡◌}
+use Rattle.response.proofs.table.legal_records.Goals as goal
+
+pub loop-k-init : goal.loop-k-init
+unfolding legal_records
+loop-k-init c =
+    let long : length c.args.table.streams ≡ 65 = search (rules, length_of_mapped) in
+    let fits : c.args.len ≤ length c.args.table.streams = omega (arith, long) in
+    (omega arith, rw (none_left _ _ fits))
+
+pub loop-k-preserved : goal.loop-k-preserved
+unfolding legal_records
+loop-k-preserved c =
+    let long : length c.args.table.streams ≡ 65 = search (rules, length_of_mapped) in
+    let fits : c.args.len ≤ length c.args.table.streams = omega (arith, long) in
+    let legal = c.legal.ensures in
+    (omega arith, rw (previous_listed _ _ fits c.loop-k.k (omega arith) (omega arith), ← c.loop-k.invariant.1, ← c.unused.ensures, ← legal))
+
+pub returns : goal.returns
+returns c = let all : c.loop-k.k ≡ 0 = omega arith in rw all at c.loop-k.invariant.1
