@@ -10,7 +10,7 @@ use wire::frame::MAX_PAYLOAD;
 use wire::ids::BusId;
 
 // The record, or why there is none: then every number but `next` is 0.
-#[derive(Drop)]
+#[derive(Clone, Copy)]
 pub struct HeardAt {
     pub ok: bool,
     pub reply: Reply,

@@ -2,7 +2,7 @@
 use wire::ids::BusId;
 
 // What stands before the payload.
-#[derive(Drop)]
+#[derive(Clone, Copy)]
 pub struct Heard {
     pub kind: u16,
     pub count: u32,

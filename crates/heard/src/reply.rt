@@ -2,7 +2,7 @@
 ghost use Rattle.std.specs.Prelude.{◌≡◌};
 ghost use Rattle.heard.specs.Replies.{number_of};
 
-#[derive(Drop)]
+#[derive(Clone, Copy)]
 pub enum Reply {
     Done,
     ShortOutput,

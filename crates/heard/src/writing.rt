@@ -14,7 +14,7 @@ use crate::reply::Reply;
 use wire::frame::MAX_PAYLOAD;
 use wire::ids::BusId;
 
-#[derive(Drop)]
+#[derive(Clone, Copy)]
 pub struct Written {
     pub reply: Reply,
     // How many bytes of the output; with any reply but Done, none.

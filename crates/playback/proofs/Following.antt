@@ -1,5 +1,5 @@
 -- A step of the code goes as the definition does: what it delivers, and what is left to replay then; and it gets nearer to the end.
-use Rattle.std.proofs.Common.{◌≡◌, ℕ, ◌+◌, ◌-◌, ◌<◌, ◌≤◌, true, false, ◌≢◌, ◌⊎◌, List, [], ◌∷◌, ◌++◌, length, sym, refl, ap, ◌∙◌, subst, inl, true≢false, append_assoc, add-zero, zero-add, arith, length-append}
+use Rattle.std.proofs.Common.{◌≡◌, ℕ, ◌+◌, ◌-◌, ◌<◌, ◌≤◌, true, ◌≢◌, ◌⊎◌, List, [], ◌∷◌, ◌++◌, length, sym, refl, ap, ◌∙◌, subst, inl, true≢false, append_assoc, add-zero, zero-add, arith, length-append}
 use native.Mathlib.Nat.{mod-add-mod}
 use lib.ListN.{replicate-append-replicate}
 use Rattle.heard.specs.declared.reading.HeardAt.{HeardAt}
@@ -22,7 +22,7 @@ use Rattle.playback.specs.Deliveries.{Delivery, deliveries_in, delivered_by, del
 use Rattle.playback.specs.Gaps.{gap_from}
 use Rattle.playback.specs.Replays.{Replayed, calls_from, replay_on}
 use Rattle.playback.specs.Quiet.{quiet, standing, ticks, held_in}
-use Rattle.playback.specs.Steps.{in64, Step, went_on, jumped, tick_step, hear_step, step}
+use Rattle.playback.specs.Steps.{in64, Step, went_on, jumped, tick_step, hear_step}
 use Rattle.playback.specs.Runs.{Lent, counted}
 use Rattle.playback.proofs.Stretches.{quiet_at_most}
 use Rattle.playback.proofs.Deliveries.{jump_delivers_nothing, gap_in_64, calls_in_parts}

@@ -1,5 +1,5 @@
 -- A step that is lent enough asks for no more; so there is a whole run for every settings and every recording.
-use Rattle.std.proofs.Common.{◌≡◌, ℕ, zero, suc, ◌+◌, ◌-◌, ◌≤◌, Bool, true, false, eqb, ◌≢◌, ◌⊎◌, List, [], ◌∷◌, ◌++◌, length, take, drop, sym, refl, ap, ◌∙◌, subst, inl, inr, true≢false, append-nil, arith, take-append-drop, length-take-le}
+use Rattle.std.proofs.Common.{◌≡◌, ℕ, zero, suc, ◌+◌, ◌-◌, ◌≤◌, Bool, true, false, eqb, ◌⊎◌, List, [], ◌∷◌, ◌++◌, length, take, drop, sym, refl, ap, ◌∙◌, subst, inl, inr, true≢false, append-nil, arith, take-append-drop, length-take-le}
 use Rattle.wire.specs.declared.ids.Stream.{Stream}
 use Rattle.wire.specs.declared.settings.Settings.{Settings}
 use Rattle.wire.specs.declared.reply.Reply as node_reply
@@ -93,7 +93,7 @@ module _ (recording : List ℕ) where
           r = rest.r;
           left = rest.left;
           promised = rest.promised;
-          is_over_here = rest.is_over;
+          is_over_here = rest.is_over_here;
         }
 
     no_more : is_over s.way ≡ true → Rest p at
@@ -152,7 +152,7 @@ some_settings ((s, x) ∷ rest) p = by (some_settings rest r.playback) (eqb (of_
     r = prepared s x p
 
     by : SomeSettings r.playback rest → (t : Bool) → eqb (of_node.number_of r.reply) 0 ≡ t → SomeSettings p ((s, x) ∷ rest)
-    by more true e = record { reply = more.reply; q = more.q; set_up_call = Prepares.next r refl e more.set_up }
+    by more true e = record { reply = more.reply; q = more.q; set_up_call = Prepares.next r refl e more.set_up_call }
     by more false e = record { reply = r.reply; q = r.playback; set_up_call = Prepares.refused r refl e }
 
 -- ── a whole run ──
@@ -166,10 +166,10 @@ some_run settings recording = by (eqb (of_node.number_of set.reply) 0) refl
     so {r} run = subst (Run settings recording) (every_replay settings recording r run) run
 
     by : (t : Bool) → eqb (of_node.number_of set.reply) 0 ≡ t → Run settings recording (replayed_in64 (replay settings recording))
-    by false e = so (not_begun set.set_up e)
+    by false e = so (not_begun set.set_up_call e)
     by true e =
-        let begun = prepares_as set.set_up fresh 0 fresh_holds in
+        let begun = prepares_as set.set_up_call fresh 0 fresh_holds in
         let rest =
         to_the_end recording (held_in (set_up_all settings fresh).node.slots + length recording) (set_up_all settings fresh).node set.q 0 begun.holds
         (omega arith) (recording_in recording) (every_recording_is_read recording) (omega arith) in
-        so (ended set.set_up e rest.steps rest.lent rest.r rest.left rest.promised rest.is_over)
+        so (ended set.set_up_call e rest.steps rest.lent rest.r rest.left rest.promised rest.is_over_here)

@@ -6,7 +6,7 @@ use Rattle.node.specs.declared.Node.{Node}
 use Rattle.node.specs.Nodes.{Outcome, done}
 use Rattle.node.specs.Slots.{many}
 use Rattle.node.specs.Told as told
-use Rattle.node.specs.Tick.{hold_length, age_of, lapses, records_from, tick}
+use Rattle.node.specs.Tick.{hold_length, age_of, lapses, records_from}
 use Rattle.node.specs.Clock.{Clock, period, unbounded, rolled}
 use Rattle.node.specs.Calls.{Call, outcome, after_from, Answer, answer_of, answers_from}
 use Rattle.node.specs.Reachable.{longest, All}

@@ -103,7 +103,7 @@ played_so settings recording short = sym (enough settings recording short) ∙ b
         → replayed_in64 (cond t (replay_on o.node (recording_in recording)) refused) ≡ cond t (stepped (suc (length recording)) recording p) refused
     by false = refl
     by true =
-        let set = prepares_as (some_settings settings fresh_playback).set_up fresh 0 fresh_holds in
+        let set = prepares_as (some_settings settings fresh_playback).set_up_call fresh 0 fresh_holds in
         let none = set.held in
         let holds : Holds o.node 0 p =
         record { kept = set.holds.kept; node = refl; ticks = ap in64 (sym set.counter); taken = refl } in

@@ -1,6 +1,8 @@
 // The replay of a recording on one receiving node: the settings first, then step by step. A step is
 // lent the next bytes of the recording and an output for what it delivers, so that a recording of
 // any length is replayed in bounded memory.
+#![tactic(auto)]
+
 ghost use Rattle.std.specs.Prelude.{◌≡◌};
 ghost use Rattle.playback.specs.Steps.{fresh_playback};
 
@@ -11,7 +13,7 @@ pub mod quiet;
 pub mod set_up;
 pub mod step;
 
-#[derive(Drop)]
+#[derive(Clone, Copy)]
 pub struct Playback {
     pub node: Node,
     // The ticks so far, modulo 2^64.

@@ -7,7 +7,7 @@ use wire::ids::Stream;
 use wire::reply::Reply;
 use wire::settings::Settings;
 
-#[derive(Drop)]
+#[derive(Clone, Copy)]
 pub struct Prepared {
     pub playback: Playback,
     // Done, or as the node's set up refuses it: that ends the replay, at offset 0.

@@ -10,7 +10,7 @@ use heard::reading::{HeardAt, heard_at};
 use heard::reply::Reply;
 use node::Node;
 
-#[derive(Drop)]
+#[derive(Clone, Copy)]
 pub enum Way {
     // The step was taken. Call again, and lend the bytes behind those that were taken.
     On,
@@ -22,7 +22,7 @@ pub enum Way {
     Over,
 }
 
-#[derive(Drop)]
+#[derive(Clone, Copy)]
 pub struct Stepped {
     pub playback: Playback,
     pub way: Way,

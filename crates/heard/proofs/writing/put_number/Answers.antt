@@ -1,0 +1,41 @@
+-- `put_number` meets its contract: at the loop's turn i the bytes from i on are left to store.
+use borrow.Author.Rules.{rules}
+use native.Mathlib.Nat.{add-zero, sub-zero}
+use native.Mathlib.Omega.{arith}
+use mathlib.Core.Path.{◌≡◌, refl, sym, ◌∙◌}
+use Prim.Native.Nat.{◌-◌}
+use lib.ListN.{length-set}
+use Rattle.heard.proofs.Storing.{number_goes_on}
+use Rattle.heard.proofs.writing.put_number.Goals as goal
+
+pub loop-i-init : goal.loop-i-init
+loop-i-init c = (search rules, refl, rw (add-zero, sub-zero))
+
+-- ?? no goal overflow-cast-out
+-- cast_out : tie.Need-overflow-cast-out invariant_loop decreases_loop
+-- cast_out c = search rules
+--
+
+-- ?? no goal overflow-add-out
+-- add_out : tie.Need-overflow-add-out invariant_loop decreases_loop
+-- add_out c = search rules
+--
+
+-- ?? no goal overflow-add-i
+-- add_i : tie.Need-overflow-add-i invariant_loop decreases_loop
+-- add_i c = search rules
+--
+
+pub loop-i-preserved : goal.loop-i-preserved
+loop-i-preserved c =
+    let a = c.args in (
+      omega arith,
+      simp length-set c.loop-i.invariant.1,
+      sym (number_goes_on c.loop-i.out a.at c.loop-i.i a.width c.loop-i.rest (omega arith)) ∙ c.loop-i.invariant.2,
+    )
+
+pub returns : goal.returns
+returns c =
+    let a = c.args in
+    let none : a.width - c.loop-i.i ≡ 0 = omega arith in
+    (rw none at c.loop-i.invariant.2, c.loop-i.invariant.1)
