@@ -59,7 +59,7 @@ pub as_node_step : (b : Bench) (e : Event) → step_by as_node b e ≡ step b e
 unfolding step_by step
 as_node_step b (asks i s payload) = refl
 as_node_step b (gives i s code) = refl
-as_node_step b (sends s message w to) = refl
+as_node_step b (sends s n w to) = refl
 as_node_step b ticks = refl
 as_node_step b (dies i) = refl
 
@@ -265,7 +265,7 @@ silent_never_delivers = record { hearing_adds_nothing = λ f m. refl; ticking_ad
 pub record Met (M : Manner) : Type 0 where
   pub keeps_rules : keeps_by M (start three) full_confirmation ≡ true
   pub accepted : is_accepted 0 five message (requested M) ≡ true
-  pub one_omission_law : one_omission (book_of five 0 (judged M)) ≡ true
+  pub one_omission : one_omission (book_of five 0 (judged M)) ≡ true
   pub data_full : was_full (book_of five 0 (judged M)).payload_frame ≡ true
   pub confirmation_full : was_full (book_of five 0 (judged M)).confirmation ≡ true
   pub a_receiver : live_receiver five (judged M) 1 ≡ true
@@ -273,12 +273,12 @@ pub record Met (M : Manner) : Type 0 where
 pub refusing_met : Met refusing
 unfolding computing step_by
 refusing_met =
-    record { keeps_rules = refl; accepted = refl; one_omission_law = refl; data_full = refl; confirmation_full = refl; a_receiver = refl }
+    record { keeps_rules = refl; accepted = refl; one_omission = refl; data_full = refl; confirmation_full = refl; a_receiver = refl }
 
 pub silent_met : Met silent
 unfolding computing step_by
 silent_met =
-    record { keeps_rules = refl; accepted = refl; one_omission_law = refl; data_full = refl; confirmation_full = refl; a_receiver = refl }
+    record { keeps_rules = refl; accepted = refl; one_omission = refl; data_full = refl; confirmation_full = refl; a_receiver = refl }
 
 -- so the second half of demand 3 is false of either bench
 pub refusing_fails_on_ten : AllIfFullAt five message (requested refusing) (judged refusing) → ⊥

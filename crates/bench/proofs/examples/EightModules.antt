@@ -114,7 +114,7 @@ their_logs =
 
 pub a_busy_day : Shows eight busy_day their_logs
 unfolding computing
-a_busy_day = record { set_up_call = refl; keeps_rules = refl; delivers = refl }
+a_busy_day = record { set_up = refl; keeps_rules = refl; delivers = refl }
 
 -- the first message on 5, one tick beyond Rd + dd after its request
 unfoldable pub first_on_five : MessageIn (start eight) busy_day

@@ -18,7 +18,7 @@ repeated =
 
 pub each_delivers_once : Shows three repeated ([] ∷ (got 18 five message ∷ []) ∷ (got 18 five message ∷ []) ∷ [])
 unfolding computing
-each_delivers_once = record { set_up_call = refl; keeps_rules = refl; delivers = refl }
+each_delivers_once = record { set_up = refl; keeps_rules = refl; delivers = refl }
 
 -- A alone hears the data at 10; the sender's battery comes out before the repeat; A drops at 14, and its abort is full at 15
 abbrev pub battery_out : List Event
@@ -28,7 +28,7 @@ battery_out =
 
 pub then_nobody_delivers : Shows three battery_out ([] ∷ [] ∷ [] ∷ [])
 unfolding computing
-then_nobody_delivers = record { set_up_call = refl; keeps_rules = refl; delivers = refl }
+then_nobody_delivers = record { set_up = refl; keeps_rules = refl; delivers = refl }
 
 -- all hear the data at 10, and A alone the confirmation at 12; the sender lives; B drops at 14, and this happens at 15
 abbrev heard_by_one : List Event → List Event
@@ -42,7 +42,7 @@ omitted = heard_by_one (gives 2 five 2 ∷ sends five 0 (the_abort 2 0) all ∷ 
 
 pub an_omitted_confirmation_drops_it : Shows three omitted ([] ∷ [] ∷ [] ∷ [])
 unfolding computing
-an_omitted_confirmation_drops_it = record { set_up_call = refl; keeps_rules = refl; delivers = refl }
+an_omitted_confirmation_drops_it = record { set_up = refl; keeps_rules = refl; delivers = refl }
 
 -- B dies with its abort given out and unsent: A, the only receiver that lives, delivers
 abbrev pub unsent_abort : List Event
@@ -50,7 +50,7 @@ unsent_abort = heard_by_one (gives 2 five 2 ∷ dies 2 ∷ [])
 
 pub an_unsent_abort_drops_nothing : Shows three unsent_abort ([] ∷ (got 17 five message ∷ []) ∷ [] ∷ [])
 unfolding computing
-an_unsent_abort_drops_nothing = record { set_up_call = refl; keeps_rules = refl; delivers = refl }
+an_unsent_abort_drops_nothing = record { set_up = refl; keeps_rules = refl; delivers = refl }
 
 -- the sender's hold ends at 19, and it is asked again; the payload is the same, and no duplicate
 abbrev sent_full : List Event
@@ -64,4 +64,4 @@ pub both_are_delivered :
     Shows three in_a_row
     ([] ∷ (got 26 five message ∷ got 17 five message ∷ []) ∷ (got 26 five message ∷ got 17 five message ∷ []) ∷ [])
 unfolding computing
-both_are_delivered = record { set_up_call = refl; keeps_rules = refl; delivers = refl }
+both_are_delivered = record { set_up = refl; keeps_rules = refl; delivers = refl }

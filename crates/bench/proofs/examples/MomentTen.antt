@@ -10,8 +10,8 @@ pub moment_ten : MomentTen
 unfolding computing
 moment_ten =
     record {
-      short = record { set_up_call = refl; keeps_rules = refl; delivers = refl };
-      full = record { set_up_call = refl; keeps_rules = refl; delivers = refl };
+      short = record { set_up = refl; keeps_rules = refl; delivers = refl };
+      full = record { set_up = refl; keeps_rules = refl; delivers = refl };
     }
 
 -- its message, one tick beyond Rd + dd after the request

@@ -1,7 +1,7 @@
 -- What a proper plan gives: kept nodes, and for each stream of a class one sender, equal settings, a ledger, no message yet.
 use Prim.Native.Nat.{ℕ, zero, suc, ◌≤◌, ◌<◌}
 use native.Mathlib.Omega.{arith}
-use mathlib.Core.Path.{◌≡◌, refl, ap, sym, subst, ◌∙◌}
+use mathlib.Core.Path.{◌≡◌, refl, sym, subst, ◌∙◌}
 use mathlib.Core.Logic.{◌⊎◌, inl, inr}
 use mathlib.Core.Bool.{Bool, true, false, not, ◌&&◌, ◌||◌, cond}
 use mathlib.Core.List.{List, [], ◌∷◌, ◌++◌, map}
@@ -18,8 +18,7 @@ use Rattle.node.specs.Calls.{after, after_from}
 use Rattle.node.specs.Clock.{unbounded}
 use Rattle.node.specs.Nodes.{slot_of, fresh, Outcome}
 use Rattle.node.specs.Reachable.{Kept}
-use Rattle.node.specs.Slots.{slot_for, is_receiver, is_sender, is_free, is_of, empty, first, on_first, some}
-use Rattle.node.proofs.Choices.{neither}
+use Rattle.node.specs.Slots.{slot_for, is_receiver, is_sender, is_of, empty, first, some}
 use Rattle.node.proofs.Cases.{by_case}
 use Rattle.node.proofs.set_up.Cases.{SetUpFacts, set_up_cases}
 use Rattle.node.proofs.set_up.TheSlot.{other_stays, own_is_found}

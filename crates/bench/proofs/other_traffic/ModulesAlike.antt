@@ -16,7 +16,7 @@ use Rattle.node.specs.Reachable.{Kept}
 use Rattle.node.specs.Hear.{heard_by, delivered_at_once}
 use Rattle.node.specs.Request.{requested}
 use Rattle.node.specs.Tick.{due, tick_slot}
-use Rattle.bench.specs.Lists.{nth, at}
+use Rattle.bench.specs.Lists.{nth}
 use Rattle.bench.specs.Bench.{Module, Book, Frame, Moment, no_module, counts, pending_since}
 use Rattle.bench.specs.Events.{with_node, at_once, onto, deliveries, ticked, dead, became_pending, enter}
 use Rattle.bench.proofs.laws.SlotAfterCall.{takes, hearing, hear_own, hear_counter, ticking, tick_slot_law, tick_counter, tick_delivers, delivery_of}

@@ -13,7 +13,7 @@ use Rattle.bench.specs.Rules.{was_full, one_omission}
 use Rattle.bench.proofs.message.SendingsSeen.{full_was}
 use Rattle.bench.proofs.message.MessageKept.{Track}
 use Rattle.bench.proofs.message.RequestOpens.{logs_of}
-use Rattle.bench.proofs.message.Judgement.{strand₃, Judges, is_live, is_over_here, DeliveredOnce, log_once, once}
+use Rattle.bench.proofs.message.Judgement.{strand₃, Judges, is_live_here, is_over_here, DeliveredOnce, log_once, once}
 use Rattle.bench.proofs.two_message.TwoMessageOnBench.{two_message}
 
 module _ (D : OS.Delays) (fit : OM.Fit D) (s : Stream) (me : ℕ) (p : List ℕ) (b₁ b₃ : Bench)
@@ -29,5 +29,5 @@ module _ (D : OS.Delays) (fit : OM.Fit D) (s : Stream) (me : ℕ) (p : List ℕ)
       (once K s me p b₁ b₃ x rule2)
       (full_was x.k.payload_frame (subst (λ ks. T (was_full (nth no_book 0 ks).payload_frame)) x.books d))
       (full_was x.k.confirmation (subst (λ ks. T (was_full (nth no_book 0 ks).confirmation)) x.books c))
-      i (is_live K s me p b₁ b₃ x i j) (is_over_here K s me p b₁ b₃ x i j) in
+      i (is_live_here K s me p b₁ b₃ x i j) (is_over_here K s me p b₁ b₃ x i j) in
       log_once K s me p b₁ b₃ x i _ e
