@@ -4,7 +4,7 @@ ghost use Rattle.module.specs.Tallies.{counted, position, place_of, zero_tally, 
 
 use wire::reply::Reply;
 
-#[derive(Drop)]
+#[derive(Clone, Copy)]
 pub struct Tally {
     // In the order of `Tally::NUMBERS`.
     pub counts: [u32; Tally::SIZE],
