@@ -3,7 +3,7 @@ use mathlib.Core.Path.{◌≡◌, refl}
 use mathlib.Core.Bool.{true, false}
 use mathlib.Core.List.{List, [], ◌∷◌}
 use Prim.Native.Nat.{ℕ}
-use Rattle.bytes.specs.Bytes.{index_of, index_after, slice}
+use Rattle.text.specs.Bytes.{index_of, index_after, slice}
 use Rattle.text.specs.declared.input.Kind.TheVariants.{Line, More, End}
 use Rattle.text.specs.Input.{step_of}
 use Rattle.text.specs.Words.{word_at, done_at}

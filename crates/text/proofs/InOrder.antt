@@ -8,7 +8,7 @@ use lib.Dec.{eqb}
 use lib.ListN.{length, take, drop, length-drop}
 use lib.Seq.{take-length, take-take, drop-drop, length-slice}
 use borrow.Author.Tests.{lt-ltb, eqb-true}
-use Rattle.bytes.specs.Bytes.{index_of, index_after, slice}
+use Rattle.text.specs.Bytes.{index_of, index_after, slice}
 use Rattle.text.specs.Buffer.{size}
 use Rattle.text.specs.Input.{stop_of, start_of, unread, end_of, line_of, step_of, line_in, over_of, kept_of, Refilled}
 use Rattle.text.specs.Words.{word_at, bytes_at}

@@ -9,7 +9,7 @@ use lib.Dec.{ltb, leb, eqb}
 use lib.ListN.{length, take, drop, get_or, set, length-drop}
 use lib.Seq.{take_all, take-length, take-suc, take-suc-set, take_at, take-add, take-take, length-take-le, drop_at, drop-set-lt, drop-drop, get_or-drop}
 use borrow.Author.Tests.{lt-ltb, le-ltb, leb-true, leb-false}
-use Rattle.bytes.specs.Bytes.{index_of, slice}
+use Rattle.text.specs.Bytes.{index_of, slice}
 use Rattle.text.specs.Buffer.{size}
 use Rattle.text.specs.Input.{stop_of, start_of, end_of, kind_of, step_of, kept_of, Refilled}
 use Rattle.text.specs.Window.{bytes_in, WindowRead}

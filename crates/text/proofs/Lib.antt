@@ -4,6 +4,7 @@ pub mod WordLaws
 pub mod InOrder
 pub mod RoundTrip
 mod Unique
+mod FindLaws
 mod InputLaws
 mod NumberLaws
 mod PayloadLaws

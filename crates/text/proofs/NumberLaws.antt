@@ -1,16 +1,18 @@
--- Laws on numbers in decimal: the loop that reads a word finds the number that the word says, and the digits that `io` makes are the number's.
+-- Laws on numbers in decimal: the loop that reads a word finds the number that the word says, and the digits that are written are the number's.
 use Prim.Native.Nat.{ℕ, zero, suc, ◌^◌, ◌+◌, ◌-◌, ◌*◌, ◌/◌, ◌%◌, ◌<◌, ◌≤◌}
 use native.Mathlib.Numerals.{add-one}
-use native.Mathlib.Nat.{pow-le-pow_right, pow-suc, mod-eq_of_lt}
+use native.Mathlib.Nat.{pow-suc}
 use native.Mathlib.Omega.{arith}
 use mathlib.Core.Path.{◌≡◌, refl, sym, ap, ◌∙◌}
 use mathlib.Core.Bool.{Bool, true, false, cond, ◌&&◌}
-use mathlib.Core.List.{List, [], ◌∷◌, ◌++◌}
+use mathlib.Core.List.{List, [], ◌∷◌, ◌++◌, append-nil, append_assoc}
 use lib.Dec.{leb}
-use lib.ListN.{length, drop, get_or, drop_of_length-le}
-use lib.Seq.{drop-cons}
+use lib.ListN.{length, take, drop, get_or, set, length-set, drop_of_length-le}
+use lib.Seq.{drop-cons, drop-set-lt}
+use Rattle.std.proofs.Common.{get_or-set_same}
+use Rattle.std.proofs.lemmas.List.{take_rest}
 use borrow.Author.Tests.{lt-ltb, le-ltb, le-leb, lt-leb, leb-true, leb-false}
-use Rattle.io.specs.Digits.{hex_digit_ascii, last_digits, IsDigitCount}
+use Rattle.text.specs.Digits.{hex_digit_ascii}
 use Rattle.text.specs.declared.words.Word.{Word}
 use Rattle.text.specs.declared.numbers.Number.{Number}
 use Rattle.text.specs.Words.{word_at, bytes_of}
@@ -90,35 +92,53 @@ pub number_found : (limit : ℕ) (s : List ℕ) (at : ℕ) (w : Word) (n : Numbe
 unfolding number_at
 number_found limit s at w n p q = record { said = rw (← p, ← q); same = rw (← p, ← q); then = rw p }
 
--- a number of 64 bits has at most 20 digits
-at_most_20 : (t : Bool) (n k : ℕ) → leb k 20 ≡ t → n < 2 ^ 64 → IsDigitCount 10 1 n k → k ≤ 20
-at_most_20 true n k e h w = leb-true k 20 e
-at_most_20 false n k e h w =
-    let l : 20 < k = leb-false k 20 e in
-    let a : 10 ^ 20 ≤ 10 ^ (k - 1) = pow-le-pow_right {n = 10} (omega arith) {i = 20} {j = k - 1} (omega arith) in
-    let b : 10 ^ (k - 1) ≤ n = w.2 (omega arith) in
-    absurd (omega arith)
+-- where the loop of `output::decimal` stands: the digits of n are those of rest, of which there are at most at, and then those that are written
+pub record Written (n at rest : ℕ) (out : List ℕ) : Type 0 where
+  pub some : 0 < at
+  pub within : at ≤ length out
+  pub small : rest < 10 ^ at
+  pub whole : decimal_text n ≡ digits_of at rest ++ drop at out
 
-pub twenty_digits : (n k : ℕ) → n < 2 ^ 64 → IsDigitCount 10 1 n k → k ≤ 20
-twenty_digits n k h w = at_most_20 (leb k 20) n k refl h w
-
--- the fewest digits that hold a number are those with no zero in front
-fewest_digits : (f n k : ℕ) → k ≤ f → IsDigitCount 10 1 n k → last_digits 10 k n ≡ digits_of f n
-fewest_digits zero n k h w = absurd (omega arith)
-fewest_digits (suc f) n zero h w = absurd (omega arith)
-fewest_digits (suc f) n (suc zero) h w =
-    let b : n < 10 = w.1 in
-    rw (mod-eq_of_lt b, lt-ltb n 10 b)
-fewest_digits (suc f) n (suc (suc j)) h w =
-    let e : suc (suc j) - 1 ≡ suc j = omega arith in
-    let d : suc j - 1 ≡ j = omega arith in
-    let one : 10 ^ 0 ≤ 10 ^ j = pow-le-pow_right {n = 10} (omega arith) {i = 0} {j = j} (omega arith) in
-    let low : 10 ^ j * 10 ≤ n = rw (e, pow-suc 10 j) at (w.2 (omega arith)) in
-    let high : n < 10 ^ suc j * 10 = rw (pow-suc 10 (suc j)) at w.1 in
-    let rest : last_digits 10 (suc j) (n / 10) ≡ digits_of f (n / 10) =
-    fewest_digits f (n / 10) (suc j) (omega arith) (omega arith, omega arith, (λ _. rw d (omega arith))) in
-    rw (le-ltb n 10 (omega arith)) (ap (λ (l : List ℕ). l ++ (hex_digit_ascii (n % 10) ∷ [])) rest)
-
-pub digits_are_text : (n k : ℕ) → n < 2 ^ 64 → IsDigitCount 10 1 n k → last_digits 10 k n ≡ decimal_text n
+pub unwritten : (n : ℕ) (out : List ℕ) → n < 2 ^ 64 → length out ≡ 20 → Written n 20 n out
 unfolding decimal_text
-digits_are_text n k h w = fewest_digits 20 n k (twenty_digits n k h w) w
+unwritten n out h long =
+    record {
+      some = omega arith;
+      within = omega arith;
+      small = omega arith;
+      whole = rw (drop_of_length-le out {i = 20} (omega arith)) (sym (append-nil (digits_of 20 n)));
+    }
+
+-- a number that is not 0 has a digit
+has_digit : (at m : ℕ) → m < 10 ^ at → 0 < m → 0 < at
+has_digit zero m h l = absurd (omega arith)
+has_digit (suc at) m h l = omega arith
+
+-- a digit that is stored in front of those that are written
+stored_in_front : (out : List ℕ) (f d : ℕ) → f < length out → drop f (set out f d) ≡ d ∷ drop (suc f) out
+stored_in_front out f d h =
+    drop-cons (set out f d) f 0 (simp length-set (omega arith)) ∙ rw (get_or-set_same out f d 0 h, drop-set-lt (suc f) out f d (omega arith))
+
+-- a turn of the loop writes the last digit of rest, and the digit that is left is written behind it
+module _ {n at rest : ℕ} {out : List ℕ} (w : Written n at rest out) (f : ℕ) (e : at ≡ suc f) where
+  pub digit_written : 9 < rest → Written n f (rest / 10) (set out f (hex_digit_ascii (rest % 10)))
+  digit_written large =
+      let low : rest < 10 ^ f * 10 = rw (e, pow-suc 10 f) at w.small in
+      let fewer : rest / 10 < 10 ^ f = omega arith in
+      let room : f < length out = omega (arith, w.within) in
+      record {
+        some = has_digit f (rest / 10) fewer (omega arith);
+        within = simp length-set (omega arith);
+        small = fewer;
+        whole =
+            rw (e, le-ltb rest 10 large, append_assoc) at w.whole ∙ rw (stored_in_front out f (hex_digit_ascii (rest % 10)) room);
+      }
+
+  pub last_written : rest ≤ 9 → drop f (set out f (hex_digit_ascii rest)) ≡ decimal_text n
+  last_written small =
+      let room : f < length out = omega (arith, w.within) in
+      stored_in_front out f (hex_digit_ascii rest) room ∙ sym (w.whole ∙ rw (e, lt-ltb rest 10 (omega arith)))
+
+-- what is lent of the digits is all that stands from index k on
+pub text_at_end : (digits : List ℕ) (k n : ℕ) → length digits ≡ 20 → drop k digits ≡ decimal_text n → take (20 - k) (drop k digits) ≡ decimal_text n
+text_at_end digits k n long e = rw long at (take_rest digits k) ∙ e

@@ -4,9 +4,9 @@ use native.Mathlib.Numerals.{add-one}
 use native.Mathlib.Omega.{arith}
 use mathlib.Core.Path.{◌≡◌, refl, sym, ap, ◌∙◌}
 use borrow.Author.Tests.{le-leb, lt-leb}
-use mathlib.Core.List.{List, [], ◌∷◌, ◌++◌, append-nil, append_assoc}
-use lib.ListN.{length, take, drop, set, length-append, length-take, length-drop, take-append-drop, drop_of_length-le}
-use lib.Seq.{take_all, take-length, take_at, drop-append-add, drop-drop, set_split}
+use mathlib.Core.List.{List, [], ◌∷◌, ◌++◌, append_assoc}
+use lib.ListN.{length, take, drop, set, length-append, length-take, length-drop, take-append-drop}
+use lib.Seq.{take_at, drop-append-add, drop-drop, set_split}
 use Rattle.text.specs.Output.{Put, Wrote, free, room_at, past_text, with_text}
 
 module _ {old text new : List ℕ} {at r : ℕ} (w : Wrote old at text new r) where
@@ -48,20 +48,12 @@ nothing old at h = record { past = omega arith; fits = h; whole = sym (take-appe
 pub stored : (old : List ℕ) (at b : ℕ) → at < length old → Wrote old at (b ∷ []) (set old at b) (at + 1)
 stored old at b h = record { past = refl; fits = omega arith; whole = rw (add-one at) (set_split old at b h) }
 
--- the part from at on was lent to a copy of s, and came back
-pub copied : (old s back : List ℕ) (at : ℕ) → at + length s ≤ length old
-    → back ≡ take (length s) s ++ drop (length s) (take (length old - at) (drop at old))
-    → Wrote old at s (take at old ++ (back ++ drop (length old - at) (drop at old))) (at + length s)
+-- the part from at on that is as long as s was lent to a copy of s, and came back
+pub copied : (old s back : List ℕ) (at : ℕ) → at + length s ≤ length old → back ≡ s
+    → Wrote old at s (take at old ++ (back ++ drop (at + length s - at) (drop at old))) (at + length s)
 copied old s back at room e =
-    let n : length (drop at old) ≡ length old - at = length-drop at old in
-    record {
-      past = refl;
-      fits = room;
-      whole =
-          rw (e, take-length s, take_all (length old - at) (drop at old) (omega arith))
-          (rw (drop_of_length-le (drop at old) {i = length old - at} (omega arith), drop-drop (length s) at old)
-          (ap (λ (l : List ℕ). take at old ++ l) (append-nil (s ++ drop (at + length s) old))));
-    }
+    let n : at + length s - at ≡ length s = omega arith in
+    record { past = refl; fits = room; whole = rw (e, n, drop-drop (length s) at old) }
 
 -- a text that was written where room was made for it is put
 pub put_there : {old text new : List ℕ} {at start r : ℕ} → start ≡ room_at at → length text ≤ free → Wrote old start text new r → Put old at text new r

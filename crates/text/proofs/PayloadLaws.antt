@@ -11,7 +11,7 @@ use lib.ListN.{length, take, drop, get_or, set}
 use lib.ListN.{length-drop, length-set, take-append-drop, drop_of_length-le}
 use lib.Seq.{take-suc, take-suc-set, drop-cons, drop-drop, drop-set-lt}
 use borrow.Author.Tests.{lt-ltb, le-leb, lt-leb, leb-true, eqb-true}
-use Rattle.io.specs.Digits.{hex_digit_ascii}
+use Rattle.text.specs.Digits.{hex_digit_ascii}
 use Rattle.text.specs.declared.words.Word.{Word}
 use Rattle.text.specs.declared.payloads.Payload.{Payload}
 use Rattle.text.specs.declared.payloads.PayloadAt.{PayloadAt}

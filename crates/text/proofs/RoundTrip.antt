@@ -8,7 +8,7 @@ use mathlib.Core.List.{List, [], ◌∷◌, ◌++◌}
 use lib.Dec.{ltb, leb}
 use lib.ListN.{length, get_or, length-append}
 use borrow.Author.Tests.{lt-ltb, le-ltb, le-leb, lt-leb, ltb-true, ltb-false}
-use Rattle.io.specs.Digits.{hex_digit_ascii}
+use Rattle.text.specs.Digits.{hex_digit_ascii}
 use Rattle.text.specs.Numbers.{digit_of, all_digits, value_of, number_of, digits_of, decimal_text}
 use Rattle.text.proofs.PayloadLaws.{hex_length}
 use Rattle.text.specs.Payloads.{nibble_of, byte_of, all_pairs, from_hex, is_dash, is_hex, is_payload, payload_bytes, to_hex, hex_text}

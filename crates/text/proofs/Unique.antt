@@ -124,35 +124,35 @@ flush_unique l input a b s t = same
 put_unique : OneAnswer (λ l a. a) put.Post
 put_unique l input a b s t p q = same p.past q.past
 
-put_content_unique : OneContent (λ l e. e.0.now) put.Post
+put_content_unique : OneContent (λ l e. e.1.0.now) put.Post
 put_content_unique l input a b s t p q = same p.whole q.whole
 
 put_byte_unique : OneAnswer (λ l a. a) put_byte.Post
 put_byte_unique l input a b s t p q = same p.past q.past
 
-put_byte_content_unique : OneContent (λ l e. e.0.now) put_byte.Post
+put_byte_content_unique : OneContent (λ l e. e.1.0.now) put_byte.Post
 put_byte_content_unique l input a b s t p q = same p.whole q.whole
 
 put_decimal_unique : OneAnswer (λ l a. a) put_decimal.Post
 put_decimal_unique l input a b s t p q = same p.past q.past
 
-put_decimal_content_unique : OneContent (λ l e. e.0.now) put_decimal.Post
+put_decimal_content_unique : OneContent (λ l e. e.1.0.now) put_decimal.Post
 put_decimal_content_unique l input a b s t p q = same p.whole q.whole
 
 put_parted_unique : OneAnswer (λ l a. a) put_parted.Post
 put_parted_unique l input a b s t p q = same p.past q.past
 
-put_parted_content_unique : OneContent (λ l e. e.0.now) put_parted.Post
+put_parted_content_unique : OneContent (λ l e. e.1.0.now) put_parted.Post
 put_parted_content_unique l input a b s t p q = same p.whole q.whole
 
 put_hex_unique : OneAnswer (λ l a. a) put_hex.Post
 put_hex_unique l input a b s t p q = same p.past q.past
 
-put_hex_content_unique : OneContent (λ l e. e.0.now) put_hex.Post
+put_hex_content_unique : OneContent (λ l e. e.1.0.now) put_hex.Post
 put_hex_content_unique l input a b s t p q = same p.whole q.whole
 
 put_told_unique : OneAnswer (λ l a. a) put_told.Post
 put_told_unique l input a b s t p q = same p.past q.past
 
-put_told_content_unique : OneContent (λ l e. e.0.now) put_told.Post
+put_told_content_unique : OneContent (λ l e. e.1.0.now) put_told.Post
 put_told_content_unique l input a b s t p q = same p.whole q.whole

@@ -4,10 +4,11 @@ use mathlib.Core.Path.{◌≡◌, refl, sym}
 use mathlib.Core.Bool.{Bool, true, false, ◌&&◌, true≢false}
 use mathlib.Core.List.{List, [], ◌∷◌}
 use lib.Dec.{eqb}
+use lib.Pointwise.{pointwise}
 use lib.ListN.{length}
 use lib.Seq.{take-length}
 use borrow.Author.Tests.{eqb-true, eq-eqb}
-use Rattle.bytes.specs.Bytes.{index_of, slice}
+use Rattle.text.specs.Bytes.{index_of, slice}
 use Rattle.text.specs.declared.words.Word.{Word}
 use Rattle.text.specs.Words.{word_at, same_bytes}
 
@@ -42,3 +43,10 @@ equivalent false false f g = refl
 -- a test that holds exactly where two words are equal is `sameBytes`
 pub same_test : (r : Bool) (s t : List ℕ) → (r ≡ true → s ≡ t) → (s ≡ t → r ≡ true) → r ≡ same_bytes s t
 same_test r s t f g = equivalent r (same_bytes s t) (λ e. rw (f e) (same_self t)) (λ e. g (same_equal s t e))
+
+-- what `==` tests at two slices of bytes
+pub same_by_each : (s t : List ℕ) → pointwise eqb s t ≡ same_bytes s t
+same_by_each [] [] = refl
+same_by_each [] (y ∷ t) = refl
+same_by_each (x ∷ s) [] = refl
+same_by_each (x ∷ s) (y ∷ t) = rw (same_by_each s t)

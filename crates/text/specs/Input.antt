@@ -1,6 +1,6 @@
 -- Which lines a buffer of input holds, as `text::input` hands them out one after the other, and what may become of the buffer when more is read.
 use Rattle.std.specs.Prelude.{ℕ, ◌+◌, ◌-◌, ◌≤◌, min, Bool, true, false, cond, ◌||◌, ◌≡◌, List, ltb, eqb, take, drop}
-use Rattle.bytes.specs.Bytes.{index_of, slice}
+use Rattle.text.specs.Bytes.{index_of, slice}
 use Rattle.text.specs.Buffer.{size}
 use Rattle.text.specs.declared.input.Input.{Input}
 use Rattle.text.specs.declared.input.Step.{Step}

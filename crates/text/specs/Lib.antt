@@ -1,3 +1,5 @@
+pub mod Bytes
+pub mod Digits
 pub mod Buffer
 pub mod Input
 pub mod Comments

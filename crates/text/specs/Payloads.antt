@@ -1,6 +1,6 @@
 -- Payloads in hex: the bytes that a word says as a payload, and the text that is written for bytes. No byte at all is `-`.
 use Rattle.std.specs.Prelude.{ℕ, ◌+◌, ◌-◌, ◌*◌, ◌/◌, ◌%◌, Bool, true, false, cond, ◌&&◌, ◌||◌, List, [], ◌∷◌, ◌++◌, ltb, leb, eqb, length, drop, get_or}
-use Rattle.io.specs.Digits.{hex_digit_ascii}
+use Rattle.text.specs.Digits.{hex_digit_ascii}
 use Rattle.text.specs.Words.{word_at, bytes_at}
 use Rattle.text.specs.declared.payloads.Payload.{Payload}
 use Rattle.text.specs.declared.payloads.PayloadAt.{PayloadAt}

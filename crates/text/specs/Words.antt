@@ -1,6 +1,6 @@
 -- The words of a line, which one space parts, as `text::words` finds them.
 use Rattle.std.specs.Prelude.{ℕ, ◌+◌, ◌-◌, min, Bool, true, false, ◌&&◌, List, [], ◌∷◌, ltb, eqb, length, take, drop}
-use Rattle.bytes.specs.Bytes.{index_of}
+use Rattle.text.specs.Bytes.{index_of}
 use Rattle.text.specs.declared.words.Word.{Word}
 
 -- where the word of s that starts at index start ends: at the next space, or at the end of s

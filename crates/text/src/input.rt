@@ -8,9 +8,10 @@ ghost use Rattle.std.specs.Prelude.{◌+◌, ◌-◌, ◌≤◌, cond, ◌≡◌
 ghost use Rattle.text.specs.Buffer.{size};
 ghost use Rattle.text.specs.Input.{fresh, step_of, kind_of, is_end, line_in, printed_to, Refilled, Advanced};
 
-use crate::{Buffer, SIZE, least, output, part};
+use crate::{Buffer, SIZE, find, least, output, part};
+use std::io::{Read, Stdin, Stdout};
 
-#[derive(Drop)]
+#[derive(Clone, Copy)]
 pub struct Input {
     pub from: usize,
     pub to: usize,
@@ -20,7 +21,7 @@ pub struct Input {
     pub ended: bool,
 }
 
-#[derive(Drop)]
+#[derive(Clone, Copy)]
 pub enum Kind {
     // buffer[start..end] is a line.
     Line,
@@ -32,7 +33,7 @@ pub enum Kind {
     End,
 }
 
-#[derive(Drop)]
+#[derive(Clone, Copy)]
 pub struct Step {
     // What to go on from.
     pub input: Input,
@@ -62,7 +63,7 @@ impl Input {
         let from = least(self.from, to);
         let over = self.over;
         let ended = self.ended;
-        let end = bytes::scan::find(buf, from, to, b'\n');
+        let end = find(buf, from, to, b'\n');
         if end < to {
             return Step {
                 input: Input {
@@ -139,7 +140,7 @@ pub fn line(step: Step, buf: &Buffer) -> &[u8]
 }
 
 // What to go on from, and the index in the output to go on at.
-#[derive(Drop)]
+#[derive(Clone, Copy)]
 pub struct On {
     pub input: Input,
     pub to: usize,
@@ -147,7 +148,14 @@ pub struct On {
 
 // Goes on from a step. Where it asks for more, what was answered up to index to is printed, and then one read is made, which may
 // wait; at the end what was answered is printed.
-pub fn advance(step: Step, buf: &mut Buffer, out: &Buffer, to: usize) -> On
+pub fn advance(
+    stdin: Stdin,
+    stdout: Stdout,
+    step: Step,
+    buf: &mut Buffer,
+    out: &Buffer,
+    to: usize,
+) -> On
     ensures advanced { Advanced step.kind buf.old step.input buf.new result.input }
     ensures to_value { result.to ≡ printed_to step.kind to }
 {
@@ -157,22 +165,22 @@ pub fn advance(step: Step, buf: &mut Buffer, out: &Buffer, to: usize) -> On
         Kind::Line => On { input: rest, to },
         Kind::Long => On { input: rest, to },
         Kind::More => {
-            let start = output::flush(out, to);
+            let start = output::flush(stdout, out, to);
             On {
-                input: refill(rest, buf),
+                input: refill(stdin, rest, buf),
                 to: start,
             }
         }
         Kind::End => On {
             input: rest,
-            to: output::flush(out, to),
+            to: output::flush(stdout, out, to),
         },
     }
 }
 
 // Moves the unread bytes to the front, and reads once behind them. Where they are all of a line
 // that is too long, they are dropped. A read that fails counts as the end of the input.
-fn refill(input: Input, buf: &mut Buffer) -> Input
+fn refill(stdin: Stdin, input: Input, buf: &mut Buffer) -> Input
     ensures { Refilled buf.old input buf.new result }
 {
     let to = least(input.to, SIZE);
@@ -180,7 +188,7 @@ fn refill(input: Input, buf: &mut Buffer) -> Input
     let over = input.over | (to - from == SIZE);
     let n = kept(from, to, over);
     shift(buf, from, n);
-    let came = fill(buf, n);
+    let came = fill(stdin, buf, n);
     Input {
         from: 0,
         to: n + came,
@@ -210,11 +218,14 @@ pub(crate) fn shift(buf: &mut [u8], from: usize, n: usize)
 }
 
 // Reads once, from index at on, and answers how many bytes came.
-pub(crate) fn fill(buf: &mut [u8], at: usize) -> usize
+pub(crate) fn fill(stdin: Stdin, buf: &mut [u8], at: usize) -> usize
     requires { at ≤ length buf.old }
     ensures result_in_bounds { at + result ≤ length buf.old }
     ensures buf_unchanged { take at buf.new ≡ take at buf.old }
 {
-    let got = libc::read(0, &mut buf[at..]);
-    io::count(got, &buf[at..])
+    let mut reader = stdin;
+    match reader.read(&mut buf[at..]) {
+        Ok(n) => n,
+        Err(_) => 0,
+    }
 }

@@ -6,14 +6,14 @@ use crate::wide;
 use crate::words::word_at;
 
 // Where a word is no number, ok is false and value is 0.
-#[derive(Drop)]
+#[derive(Clone, Copy)]
 pub struct Number {
     pub ok: bool,
     pub value: u64,
 }
 
 // A number, and the index where the next word starts.
-#[derive(Drop)]
+#[derive(Clone, Copy)]
 pub struct NumberAt {
     pub ok: bool,
     pub value: u64,
@@ -21,28 +21,28 @@ pub struct NumberAt {
 }
 
 // The same for numbers that fit fewer bits, or count bytes.
-#[derive(Drop)]
+#[derive(Clone, Copy)]
 pub struct U8At {
     pub ok: bool,
     pub value: u8,
     pub next: usize,
 }
 
-#[derive(Drop)]
+#[derive(Clone, Copy)]
 pub struct U16At {
     pub ok: bool,
     pub value: u16,
     pub next: usize,
 }
 
-#[derive(Drop)]
+#[derive(Clone, Copy)]
 pub struct U32At {
     pub ok: bool,
     pub value: u32,
     pub next: usize,
 }
 
-#[derive(Drop)]
+#[derive(Clone, Copy)]
 pub struct UsizeAt {
     pub ok: bool,
     pub value: usize,

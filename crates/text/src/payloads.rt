@@ -7,14 +7,14 @@ use crate::wide;
 use crate::words::word_at;
 
 // The payload is the first len of the lent bytes. Where a word is no payload, ok is false and len is 0.
-#[derive(Drop)]
+#[derive(Clone, Copy)]
 pub struct Payload {
     pub ok: bool,
     pub len: usize,
 }
 
 // A payload, and the index where the next word starts.
-#[derive(Drop)]
+#[derive(Clone, Copy)]
 pub struct PayloadAt {
     pub ok: bool,
     pub len: usize,

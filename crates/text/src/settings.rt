@@ -7,7 +7,7 @@ use wire::ids::Stream;
 use wire::settings::Settings;
 
 // Where one of the words is no number, ok is false.
-#[derive(Drop)]
+#[derive(Clone, Copy)]
 pub struct SettingsAt {
     pub ok: bool,
     pub stream: Stream,

@@ -4,9 +4,10 @@ ghost use Rattle.text.specs.Window.{empty, past_bytes, bytes_in, WindowRead};
 
 use crate::input::{fill, shift};
 use crate::{least, part};
+use std::io::Stdin;
 
 // The bytes at hand are buffer[from..to].
-#[derive(Drop)]
+#[derive(Clone, Copy)]
 pub struct Window {
     pub from: usize,
     pub to: usize,
@@ -49,7 +50,7 @@ pub fn bytes(window: Window, buf: &[u8]) -> &[u8]
 
 // Moves the bytes at hand to the front, and reads once behind them, which may wait. A read that fails counts as the end of
 // the input. Where they fill the buffer, nothing is read.
-pub fn read(window: Window, buf: &mut [u8]) -> Window
+pub fn read(stdin: Stdin, window: Window, buf: &mut [u8]) -> Window
     ensures { WindowRead buf.old window buf.new result }
 {
     let size = buf.len();
@@ -57,7 +58,7 @@ pub fn read(window: Window, buf: &mut [u8]) -> Window
     let from = least(window.from, to);
     let n = to - from;
     shift(buf, from, n);
-    let came = fill(buf, n);
+    let came = fill(stdin, buf, n);
     Window {
         from: 0,
         to: n + came,

@@ -6,10 +6,10 @@
 ghost use Rattle.std.specs.Prelude.{◌≤◌, ◌≡◌, length};
 ghost use Rattle.text.specs.Words.{word_at, same_bytes, done_at};
 
-use crate::least;
+use crate::{find, least};
 
 // The word is line[start..end], and the next one starts at index next.
-#[derive(Drop)]
+#[derive(Clone, Copy)]
 pub struct Word {
     pub start: usize,
     pub end: usize,
@@ -23,7 +23,7 @@ pub fn word_at(line: &[u8], at: usize) -> Word
 {
     let n = line.len();
     let start = least(at, n);
-    let end = bytes::scan::find(line, start, n, b' ');
+    let end = find(line, start, n, b' ');
     Word {
         start,
         end,
@@ -42,5 +42,5 @@ pub fn done(line: &[u8], at: usize) -> bool
 pub fn is(word: &[u8], name: &[u8]) -> bool
     ensures { result ≡ same_bytes word.now name.now }
 {
-    check::same(word, name)
+    word == name
 }
