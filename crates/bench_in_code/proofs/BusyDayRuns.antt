@@ -19,7 +19,7 @@ allowed : (xs : SetUps) → SetsUp xs eight → Allowed eight xs busy_day
 allowed xs sets_up =
     record {
       is_proper = so a_busy_day.set_up;
-      set_up_call = sets_up;
+      set_up = sets_up;
       keeps_rules =
           and_l (keeps_so_far (start eight) busy_day) (every (λ (l : Ledger). every one_omission l.books) (run (start eight) busy_day).ledgers)
           (so a_busy_day.keeps_rules);

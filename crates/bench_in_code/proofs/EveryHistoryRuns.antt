@@ -13,8 +13,8 @@ use Rattle.bench_in_code.specs.declared.outbox.Frame as Kept-frame
 use Rattle.bench_in_code.specs.declared.outbox.Frames.{Frames}
 use Rattle.bench_in_code.specs.Values as coded
 use Rattle.bench.specs.SetUp.{Plan, all_entries, proper, start}
-use Rattle.bench.specs.Bench.{Bench, Frame, Which, is_live, book_of, frame_of, owner_of}
-use Rattle.bench.specs.Events.{Event, asks, gives, sends, ticks, dies, To, step, run, is_next}
+use Rattle.bench.specs.Bench.{Bench, Which, is_live, book_of, frame_of, owner_of}
+use Rattle.bench.specs.Events.{Event, asks, gives, sends, ticks, dies, To, step, is_next}
 use Rattle.bench.specs.Rules.{one, was_full, rule1, rule3, may, keeps_so_far}
 use Rattle.bench_in_code.specs.InCode.{capacity, no_frame, frame_in, with_frame, giving_of}
 use Rattle.bench_in_code.specs.InStep.{InStep, places_of}

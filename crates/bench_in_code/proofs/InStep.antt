@@ -12,7 +12,6 @@ use lib.Seq.{take-append_seam}
 use lib.Dec.{T, eqb, eqb→eq}
 use borrow.Author.Tests.{lt-leb}
 use Rattle.wire.specs.declared.ids.Stream.{Stream}
-use Rattle.wire.specs.declared.reply.Reply.TheVariants.{Done}
 use Rattle.wire.specs.Frames.{max_payload}
 use Rattle.wire.specs.Identifiers.{stream_of, code_of}
 use Rattle.wire.specs.Delivered.{over}
@@ -22,7 +21,6 @@ use Rattle.node.specs.Clock.{unbounded, rolled}
 use Rattle.node.specs.Calls.{Call, hear, tick, request, outcome, roll_outcome}
 use Rattle.node.proofs.Choices.{contrary}
 use Rattle.node.proofs.Cases.{by_case}
-use Rattle.node.proofs.tick.Cases.{tick_cases}
 use Rattle.node.proofs.request.Cases.{request_cases}
 use Rattle.node.proofs.next_frame.Cases.{next_facts, next_passes, next_cases}
 use Rattle.node.proofs.kept.EveryCall.{kept_by}

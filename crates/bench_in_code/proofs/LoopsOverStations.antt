@@ -12,7 +12,7 @@ use Rattle.bench_in_code.specs.declared.stations.Spoken.{Spoken}
 use Rattle.bench_in_code.specs.declared.outbox.Frame.{Frame}
 use Rattle.bench_in_code.specs.Values.{Station, Said, Turn, Bench}
 use Rattle.bench_in_code.specs.InCode.{silence, tick_turn, hear_turn, is_live_in, turns_of, after_turns, said_in, tick_of, sending_of}
-use Rattle.bench_in_code.specs.InBytes.{station_in, stations_in, bench_in, spoken_of, spoken_in, outputs_in, sent_of}
+use Rattle.bench_in_code.specs.InBytes.{station_in, stations_in, spoken_of, spoken_in, outputs_in, sent_of}
 use Rattle.bench_in_code.proofs.StationsInBytes.{as_many, station_read, node_stored}
 use Rattle.bench.specs.Lists.{each}
 use Rattle.bench.proofs.laws.ListPlaces.{made_from, none_made, one_more_made, not_yet_made, map_same, map_each, length_each}

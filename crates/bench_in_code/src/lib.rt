@@ -1,5 +1,7 @@
 // The bench in code: up to eight modules on a modelled bus, and what each event makes of them. A place without a module is a
 // module that was never live. The nodes stand in bytes that the caller lends, and so does what they write.
+#![tactic(auto)]
+
 ghost use Rattle.std.specs.Prelude.{◌≡◌, false, length, get_or, set, ltb};
 ghost use Rattle.node.specs.Calls.{set_up, request};
 ghost use Rattle.bench_in_code.specs.InCode.{place_count, bench_of, asked, requested_in, no_frame, giving_of, sending_of, tick_of};
@@ -15,7 +17,7 @@ pub mod outbox;
 pub mod stations;
 
 // Who is live. The nodes are lent to each call.
-#[derive(Drop)]
+#[derive(Clone, Copy)]
 pub struct Bench {
     pub live: [bool; Bench::PLACES],
 }
@@ -40,7 +42,7 @@ fn places_with(nodes: &[NodeBytes], _outs: &[Output]) -> usize
 }
 
 // What a set up or a request answers; where `there` is false nobody answered, and nothing changed.
-#[derive(Drop)]
+#[derive(Clone, Copy)]
 pub struct Answered {
     pub there: bool,
     pub reply: Reply,
@@ -55,13 +57,13 @@ impl Answered {
 }
 
 // What a sending answers; where `sent` is false the frame's owner was not live, and nothing changed.
-#[derive(Drop)]
+#[derive(Clone, Copy)]
 pub struct Sending {
     pub sent: bool,
     pub said: [Spoken; Bench::PLACES],
 }
 
-#[derive(Drop)]
+#[derive(Clone, Copy)]
 pub enum Giving {
     // The module is not live.
     Dead,
@@ -74,7 +76,7 @@ pub enum Giving {
 }
 
 // What giving out a module's next frame answers.
-#[derive(Drop)]
+#[derive(Clone, Copy)]
 pub struct Given {
     pub frames: Frames,
     pub giving: Giving,

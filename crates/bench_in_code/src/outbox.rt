@@ -6,7 +6,7 @@ ghost use Rattle.bench_in_code.specs.InCode.{payload_of, no_frames, frame_in, wi
 use wire::frame::{MAX_PAYLOAD, at_most_payload};
 use wire::ids::BusId;
 
-#[derive(Drop)]
+#[derive(Clone, Copy)]
 pub struct Frame {
     pub owner: usize,
     pub id: BusId,
@@ -39,7 +39,7 @@ impl Frame {
     }
 }
 
-#[derive(Drop)]
+#[derive(Clone, Copy)]
 pub struct Frames {
     pub all: [Frame; Frames::MOST],
     pub count: usize,

@@ -31,7 +31,7 @@ pub const CLEAR: Output = [0; Spoken::ROOM];
 
 // What a module answered to an event: its reply, how many bytes of its output it wrote, what a frame did, and how many messages a tick
 // dropped and delivered. Where `heard` is false, the event did not reach it.
-#[derive(Drop)]
+#[derive(Clone, Copy)]
 pub struct Spoken {
     pub heard: bool,
     pub reply: Reply,
@@ -119,7 +119,7 @@ pub(crate) fn tick(live: bool, node: &mut NodeBytes, out: &mut Output) -> Spoken
 }
 
 // A node after its next frame was given out, and that frame.
-#[derive(Drop)]
+#[derive(Clone, Copy)]
 pub(crate) struct Next {
     pub node: NodeBytes,
     pub reply: Reply,
