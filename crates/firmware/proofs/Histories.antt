@@ -1,7 +1,7 @@
 -- Over every history C sees what the definitions say with ticks counted without bound.
 use Prim.Native.Nat.{ℕ}
-use mathlib.Core.Path.{◌≡◌, refl, sym, ap, ap₂, subst, ◌∙◌}
-use mathlib.Core.List.{List, [], ◌∷◌}
+use mathlib.Core.Path.{◌≡◌, refl, ap, ap₂, ◌∙◌}
+use mathlib.Core.List.{List, ◌∷◌}
 use Rattle.node.specs.declared.Node.{Node}
 use Rattle.node.specs.Nodes.{fresh, Outcome}
 use Rattle.node.specs.Clock.{unbounded, rolled}

@@ -11,8 +11,7 @@ use Rattle.wire.specs.declared.ids.Stream.{Stream}
 use Rattle.wire.specs.Replies.{number_of}
 use Rattle.node.specs.Told.{told_number}
 use Rattle.node.specs.Nodes.{Outcome, refused}
-use Rattle.node.specs.Clock.{rolled}
-use Rattle.node.specs.Calls.{Call, outcome}
+use Rattle.node.specs.Calls.{Call}
 use Rattle.node_bytes.specs.declared.hear.LentHeard.{LentHeard}
 use Rattle.node_bytes.specs.declared.tick.LentTicked.{LentTicked}
 use Rattle.node_bytes.specs.declared.next_frame.GivenOut.{GivenOut}

@@ -1,11 +1,10 @@
 -- Over every history of the calls on a lent node C sees what the definitions say with ticks counted without bound.
 use Prim.Native.Nat.{ℕ, ◌+◌}
-use mathlib.Core.Path.{◌≡◌, refl, sym, ap, ap₂, ◌∙◌}
+use mathlib.Core.Path.{◌≡◌, refl, ap, ap₂, ◌∙◌}
 use mathlib.Core.Bool.{Bool, true, false, cond}
-use mathlib.Core.List.{List, [], ◌∷◌}
+use mathlib.Core.List.{List, ◌∷◌}
 use lib.ListN.{length, set, length-set}
 use lib.Dec.{ltb}
-use borrow.Author.Tests.{eqb-true}
 use Rattle.wire.specs.declared.reply.Reply.{Reply}
 use Rattle.wire.specs.Replies.{number_of}
 use Rattle.node.specs.declared.Node.{Node}
@@ -18,7 +17,6 @@ use Rattle.node.proofs.kept.EveryCall.{kept_fresh, kept_by}
 use Rattle.node.proofs.rollover.SameAnswers.{rolls}
 use Rattle.node_bytes.specs.Layout.{node_size}
 use Rattle.node_bytes.specs.Decoding.{decode}
-use Rattle.node_bytes.specs.Lent.{is_node, fresh_in}
 use Rattle.node_bytes.specs.LentCalls.{lent_outcome}
 use Rattle.node_bytes.proofs.Lent.{is_node_law, fresh_written, length_stays}
 use Rattle.node_bytes.proofs.Calling.{as_node_law}

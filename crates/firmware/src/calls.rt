@@ -17,7 +17,7 @@ use wire::ids::{BusId, Stream};
 
 // What set up and request answer.
 #[repr(C)]
-#[derive(Drop)]
+#[derive(Clone, Copy)]
 pub struct AnsweredC {
     pub node: Node,
     pub reply: u32,
@@ -25,7 +25,7 @@ pub struct AnsweredC {
 
 // What hear answers.
 #[repr(C)]
-#[derive(Drop)]
+#[derive(Clone, Copy)]
 pub struct HeardC {
     pub node: Node,
     pub reply: u32,
@@ -35,7 +35,7 @@ pub struct HeardC {
 
 // What tick answers.
 #[repr(C)]
-#[derive(Drop)]
+#[derive(Clone, Copy)]
 pub struct TickedC {
     pub node: Node,
     pub reply: u32,
@@ -46,7 +46,7 @@ pub struct TickedC {
 
 // What next frame answers.
 #[repr(C)]
-#[derive(Drop)]
+#[derive(Clone, Copy)]
 pub struct GivenC {
     pub node: Node,
     pub reply: u32,

@@ -8,7 +8,7 @@ use wire::settings::Settings;
 
 // The settings of a stream, each a number of any size.
 #[repr(C)]
-#[derive(Drop)]
+#[derive(Clone, Copy)]
 pub struct SettingsC {
     pub role: u32,
     pub class: u32,

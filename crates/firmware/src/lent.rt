@@ -22,7 +22,7 @@ use wire::ids::{BusId, Stream};
 
 // What hear answers.
 #[repr(C)]
-#[derive(Drop)]
+#[derive(Clone, Copy)]
 pub struct LentHeardC {
     pub reply: u32,
     pub told: u32,
@@ -31,7 +31,7 @@ pub struct LentHeardC {
 
 // What tick answers.
 #[repr(C)]
-#[derive(Drop)]
+#[derive(Clone, Copy)]
 pub struct LentTickedC {
     pub reply: u32,
     pub dropped: u32,
@@ -41,7 +41,7 @@ pub struct LentTickedC {
 
 // What next frame answers.
 #[repr(C)]
-#[derive(Drop)]
+#[derive(Clone, Copy)]
 pub struct GivenOutC {
     pub reply: u32,
     pub id: u32,

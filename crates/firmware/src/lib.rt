@@ -1,5 +1,7 @@
 // What the modules' C firmware calls: plain numbers in and out, for every value of each. A reply is
 // answered as the rules paper's number, and a value is 0 unless its reply is 0.
+#![tactic(auto)]
+
 ghost use Rattle.std.specs.Prelude.{◌≡◌};
 ghost use Rattle.wire.specs.Replies.{number_of};
 ghost use Rattle.wire.specs.Identifiers.{join, split};

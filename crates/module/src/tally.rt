@@ -68,6 +68,7 @@ impl Tally {
     }
 
     // The tally with one more reply.
+    #[tactic(auto, using(crate::proofs::Places::has_place, std::proofs::lemmas::Bool::Decides::nat_tests), unfolding(crate::specs::Tallies::tallied))]
     pub fn counted(mut self, reply: Reply) -> Tally
         ensures { result ≡ tallied self reply }
     {
@@ -91,6 +92,7 @@ pub fn count(tally: &mut Tally, reply: Reply)
 // A reply's number, counted in counts that their owner lends, in the order of `Tally::NUMBERS`; whether
 // it has a count there. Counts of another length than a tally's are left as they are, and so are all
 // counts where the number is none that is counted.
+#[tactic(auto, using(std::proofs::lemmas::Bool::Decides::nat_tests), unfolding(crate::specs::Tallies::counted_in))]
 pub fn count_in(counts: &mut [u32], number: u32) -> bool
     ensures answer { result ≡ has_count number counts.old }
     ensures counts { counts.new ≡ counted_in number counts.old }
