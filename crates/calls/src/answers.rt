@@ -4,17 +4,18 @@ ghost use Rattle.module.specs.Tallies.{tallied};
 
 use module::tally::Tally;
 use node::Node;
+use std::io::Stdout;
 use text::{Buffer, output};
 use wire::reply::Reply;
 
-#[derive(Drop)]
+#[derive(Clone, Copy)]
 pub struct State {
     pub node: Node,
     pub tally: Tally,
 }
 
 // The state after a line, and the index in the output past its answer.
-#[derive(Drop)]
+#[derive(Clone, Copy)]
 pub struct Answer {
     pub state: State,
     pub to: usize,
@@ -40,26 +41,26 @@ pub(crate) fn after(node: Node, tally: Tally, reply: Reply) -> State
 }
 
 // The answer to a line that can't be read: nothing changes.
-pub(crate) fn unread(state: State, out: &mut Buffer, to: usize) -> Answer
+pub(crate) fn unread(stdout: Stdout, state: State, out: &mut Buffer, to: usize) -> Answer
     ensures { result.state ≡ state }
 {
     Answer {
         state,
-        to: output::put_byte(out, to, b'?'),
+        to: output::put_byte(stdout, out, to, b'?'),
     }
 }
 
 // The answer with its newline.
-pub(crate) fn ended(answer: Answer, out: &mut Buffer) -> Answer
+pub(crate) fn ended(stdout: Stdout, answer: Answer, out: &mut Buffer) -> Answer
     ensures { result.state ≡ answer.state }
 {
     let state = answer.state;
     Answer {
         state,
-        to: output::put_byte(out, answer.to, b'\n'),
+        to: output::put_byte(stdout, out, answer.to, b'\n'),
     }
 }
 
-pub(crate) fn put_reply(out: &mut Buffer, to: usize, reply: Reply) -> usize {
-    output::put_decimal(out, to, reply.number() as u64)
+pub(crate) fn put_reply(stdout: Stdout, out: &mut Buffer, to: usize, reply: Reply) -> usize {
+    output::put_decimal(stdout, out, to, reply.number() as u64)
 }

@@ -2,13 +2,14 @@
 use crate::answers::{Answer, State};
 use crate::{answers, calls};
 use node::Node;
+use std::io::Stdout;
 use text::input::{Kind, Step};
 use text::{Buffer, numbers, output, part, words};
 
 // The most ticks of one line.
 const TICKS: u64 = 65536;
 
-#[derive(Drop)]
+#[derive(Clone, Copy)]
 enum Command {
     Fresh,
     SetUp,
@@ -50,23 +51,31 @@ fn command_of(word: &[u8]) -> Command {
 }
 
 // Answers one step of the input.
-pub(crate) fn answer(state: State, step: Step, line: &[u8], out: &mut Buffer, to: usize) -> Answer {
+pub(crate) fn answer(
+    stdout: Stdout,
+    state: State,
+    step: Step,
+    line: &[u8],
+    out: &mut Buffer,
+    to: usize,
+) -> Answer {
     let kind = step.kind;
     match kind {
-        Kind::Line => answers::ended(read(state, line, out, to), out),
-        Kind::Long => answers::ended(answers::unread(state, out, to), out),
+        Kind::Line => answers::ended(stdout, read(stdout, state, line, out, to), out),
+        Kind::Long => answers::ended(stdout, answers::unread(stdout, state, out, to), out),
         Kind::More => Answer { state, to },
         Kind::End => Answer { state, to },
     }
 }
 
-fn read(state: State, line: &[u8], out: &mut Buffer, to: usize) -> Answer {
+fn read(stdout: Stdout, state: State, line: &[u8], out: &mut Buffer, to: usize) -> Answer {
     let w = words::word_at(line, 0);
     let command = command_of(part(line, w.start, w.end));
-    named(command, state, line, w.next, out, to)
+    named(stdout, command, state, line, w.next, out, to)
 }
 
 fn named(
+    stdout: Stdout,
     command: Command,
     state: State,
     line: &[u8],
@@ -75,55 +84,69 @@ fn named(
     to: usize,
 ) -> Answer {
     match command {
-        Command::Fresh => fresh(state, line, at, out, to),
-        Command::SetUp => calls::setup(state, line, at, out, to),
-        Command::Hear => calls::hear(state, line, at, out, to),
-        Command::Tick => calls::tick(state, line, at, out, to),
-        Command::Many => ticks(state, line, at, out, to),
-        Command::Request => calls::request(state, line, at, out, to),
-        Command::Next => calls::next(state, line, at, out, to),
-        Command::Counts => tally(state, line, at, out, to),
-        Command::Unknown => answers::unread(state, out, to),
+        Command::Fresh => fresh(stdout, state, line, at, out, to),
+        Command::SetUp => calls::setup(stdout, state, line, at, out, to),
+        Command::Hear => calls::hear(stdout, state, line, at, out, to),
+        Command::Tick => calls::tick(stdout, state, line, at, out, to),
+        Command::Many => ticks(stdout, state, line, at, out, to),
+        Command::Request => calls::request(stdout, state, line, at, out, to),
+        Command::Next => calls::next(stdout, state, line, at, out, to),
+        Command::Counts => tally(stdout, state, line, at, out, to),
+        Command::Unknown => answers::unread(stdout, state, out, to),
     }
 }
 
 // node
-fn fresh(state: State, line: &[u8], at: usize, out: &mut Buffer, to: usize) -> Answer {
+fn fresh(
+    stdout: Stdout,
+    state: State,
+    line: &[u8],
+    at: usize,
+    out: &mut Buffer,
+    to: usize,
+) -> Answer {
     if words::done(line, at) {
         return Answer {
             state: State::new(),
-            to: output::put(out, to, b"node"),
+            to: output::put(stdout, out, to, b"node"),
         };
     }
-    answers::unread(state, out, to)
+    answers::unread(stdout, state, out, to)
 }
 
 // ticks N
-fn ticks(state: State, line: &[u8], at: usize, out: &mut Buffer, to: usize) -> Answer {
+fn ticks(
+    stdout: Stdout,
+    state: State,
+    line: &[u8],
+    at: usize,
+    out: &mut Buffer,
+    to: usize,
+) -> Answer {
     let n = numbers::number_at(line, at, TICKS);
     if n.ok & words::done(line, n.next) {
-        let last = many(state, n.value, out, to);
+        let last = many(stdout, state, n.value, out, to);
         let then = last.state;
         return Answer {
             state: then,
-            to: output::put_decimal(out, last.to, then.node.counter as u64),
+            to: output::put_decimal(stdout, out, last.to, then.node.counter as u64),
         };
     }
-    answers::unread(state, out, to)
+    answers::unread(stdout, state, out, to)
 }
 
-fn many(state: State, n: u64, out: &mut Buffer, to: usize) -> Answer {
+fn many(stdout: Stdout, state: State, n: u64, out: &mut Buffer, to: usize) -> Answer {
     let mut answer = Answer { state, to };
     let mut k: u64 = 0;
     while k < n {
         k += 1;
-        answer = one(answer, k, out);
+        answer = one(stdout, answer, k, out);
     }
     answer
 }
 
 // The kth tick, with `K BYTES ` where it wrote something.
-fn one(before: Answer, k: u64, out: &mut Buffer) -> Answer {
+fn one(stdout: Stdout, before: Answer, k: u64, out: &mut Buffer) -> Answer {
     let mut output = [0u8; Node::TICK_ROOM];
     let state = before.state;
     let node = state.node;
@@ -131,46 +154,60 @@ fn one(before: Answer, k: u64, out: &mut Buffer) -> Answer {
     let reply = answer.reply;
     Answer {
         state: answers::after(answer.node, state.tally, reply),
-        to: put_tick(out, before.to, k, &output, answer.written),
+        to: put_tick(stdout, out, before.to, k, &output, answer.written),
     }
 }
 
-fn put_tick(out: &mut Buffer, to: usize, k: u64, bytes: &[u8], written: usize) -> usize {
+fn put_tick(
+    stdout: Stdout,
+    out: &mut Buffer,
+    to: usize,
+    k: u64,
+    bytes: &[u8],
+    written: usize,
+) -> usize {
     if written == 0 {
         return to;
     }
-    let start = output::put_parted(out, to, k, b' ');
-    let end = output::put_hex(out, start, part(bytes, 0, written));
-    output::put_byte(out, end, b' ')
+    let start = output::put_parted(stdout, out, to, k, b' ');
+    let end = output::put_hex(stdout, out, start, part(bytes, 0, written));
+    output::put_byte(stdout, out, end, b' ')
 }
 
 // tally
-fn tally(state: State, line: &[u8], at: usize, out: &mut Buffer, to: usize) -> Answer {
+fn tally(
+    stdout: Stdout,
+    state: State,
+    line: &[u8],
+    at: usize,
+    out: &mut Buffer,
+    to: usize,
+) -> Answer {
     if words::done(line, at) {
         let counts = state.tally.counts;
         return Answer {
             state,
-            to: put_counts(out, to, &counts),
+            to: put_counts(stdout, out, to, &counts),
         };
     }
-    answers::unread(state, out, to)
+    answers::unread(stdout, state, out, to)
 }
 
-fn put_counts(out: &mut Buffer, to: usize, counts: &[u32]) -> usize {
+fn put_counts(stdout: Stdout, out: &mut Buffer, to: usize, counts: &[u32]) -> usize {
     let mut past = to;
     let mut i = 0;
     while i < counts.len() {
-        past = put_count(out, past, 0 < i, counts[i]);
+        past = put_count(stdout, out, past, 0 < i, counts[i]);
         i += 1;
     }
     past
 }
 
 // A count, with a space before it where another stands there.
-fn put_count(out: &mut Buffer, to: usize, more: bool, count: u32) -> usize {
+fn put_count(stdout: Stdout, out: &mut Buffer, to: usize, more: bool, count: u32) -> usize {
     if more {
-        let past = output::put_byte(out, to, b' ');
-        return output::put_decimal(out, past, count as u64);
+        let past = output::put_byte(stdout, out, to, b' ');
+        return output::put_decimal(stdout, out, past, count as u64);
     }
-    output::put_decimal(out, to, count as u64)
+    output::put_decimal(stdout, out, to, count as u64)
 }

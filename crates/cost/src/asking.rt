@@ -4,7 +4,7 @@ ghost use Rattle.std.specs.Prelude.{◌≤◌};
 use node::Node;
 use wire::settings::Settings;
 
-#[derive(Drop)]
+#[derive(Clone, Copy)]
 pub struct Asked {
     // A stream, or a bus identifier.
     pub number: u32,

@@ -8,7 +8,7 @@ use wire::ids::{BusId, Stream};
 use wire::settings::Settings;
 
 // Which streams a node has.
-#[derive(Drop)]
+#[derive(Clone, Copy)]
 pub enum Streams {
     // All classes, and every eighth sent.
     Mixed,
@@ -61,7 +61,7 @@ pub(crate) fn set_up(streams: Streams) -> Node {
 }
 
 // What is done to a stream.
-#[derive(Drop)]
+#[derive(Clone, Copy)]
 pub enum Done {
     // Data is heard.
     Heard,

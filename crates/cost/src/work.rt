@@ -10,7 +10,7 @@ use node::Node;
 use text::{least, words};
 use wire::ids::{BusId, Stream};
 
-#[derive(Drop)]
+#[derive(Clone, Copy)]
 pub enum Work {
     Hear,
     HearLast,
@@ -27,7 +27,7 @@ pub enum Work {
     Mixed,
 }
 
-#[derive(Drop)]
+#[derive(Clone, Copy)]
 enum Call {
     Hear,
     Tick,
@@ -36,7 +36,7 @@ enum Call {
     SetUp,
 }
 
-#[derive(Drop)]
+#[derive(Clone, Copy)]
 pub enum Named {
     Is(Work),
     Unknown,

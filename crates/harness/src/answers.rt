@@ -2,10 +2,11 @@
 ghost use Rattle.std.specs.Prelude.{◌≡◌};
 
 use bench_in_code::{Bench, Nodes};
+use std::io::Stdout;
 use text::{Buffer, output};
 use wire::reply::Reply;
 
-#[derive(Drop)]
+#[derive(Clone, Copy)]
 pub struct State {
     pub bench: Bench,
     // How many modules the bench has; 0 before there is one.
@@ -15,7 +16,7 @@ pub struct State {
 }
 
 // The state after a line, and the index in the output past its answer.
-#[derive(Drop)]
+#[derive(Clone, Copy)]
 pub struct Answer {
     pub state: State,
     pub to: usize,
@@ -36,19 +37,19 @@ impl State {
 }
 
 // The answer to a line that can't be read: nothing changes.
-pub(crate) fn unread(state: State, out: &mut Buffer, to: usize) -> Answer
+pub(crate) fn unread(stdout: Stdout, state: State, out: &mut Buffer, to: usize) -> Answer
     ensures { result.state ≡ state }
 {
     Answer {
         state,
-        to: output::put_byte(out, to, b'?'),
+        to: output::put_byte(stdout, out, to, b'?'),
     }
 }
 
-pub(crate) fn put_reply(out: &mut Buffer, to: usize, reply: Reply) -> usize {
-    output::put_decimal(out, to, reply.number() as u64)
+pub(crate) fn put_reply(stdout: Stdout, out: &mut Buffer, to: usize, reply: Reply) -> usize {
+    output::put_decimal(stdout, out, to, reply.number() as u64)
 }
 
-pub(crate) fn put_dead(out: &mut Buffer, to: usize) -> usize {
-    output::put(out, to, b"dead")
+pub(crate) fn put_dead(stdout: Stdout, out: &mut Buffer, to: usize) -> usize {
+    output::put(stdout, out, to, b"dead")
 }

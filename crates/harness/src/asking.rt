@@ -3,6 +3,7 @@ use crate::answers::{Answer, State};
 use crate::lines::Verb;
 use crate::{answers, names, ticking};
 use bench_in_code::{Nodes, Outputs};
+use std::io::Stdout;
 use text::settings::settings_at;
 use text::{Buffer, numbers, part, payloads, words};
 use wire::ids::Stream;
@@ -12,6 +13,7 @@ use wire::reply::Reply;
 const PAYLOAD: usize = 64;
 
 pub(crate) fn line(
+    stdout: Stdout,
     verb: Verb,
     state: State,
     nodes: &mut Nodes,
@@ -23,18 +25,19 @@ pub(crate) fn line(
     let w = words::word_at(line, 0);
     let at = w.next;
     match verb {
-        Verb::Tick => ticking::tick(state, nodes, line, at, outs, out, to),
-        Verb::Ticks => ticking::ticks(state, nodes, line, at, outs, out, to),
-        Verb::SetUp => setup(state, nodes, line, at, out, to),
-        Verb::Request => request(state, nodes, line, at, out, to),
-        Verb::Death => death(state, line, at, out, to),
-        Verb::Unknown => answers::unread(state, out, to),
+        Verb::Tick => ticking::tick(stdout, state, nodes, line, at, outs, out, to),
+        Verb::Ticks => ticking::ticks(stdout, state, nodes, line, at, outs, out, to),
+        Verb::SetUp => setup(stdout, state, nodes, line, at, out, to),
+        Verb::Request => request(stdout, state, nodes, line, at, out, to),
+        Verb::Death => death(stdout, state, line, at, out, to),
+        Verb::Unknown => answers::unread(stdout, state, out, to),
         _ => Answer { state, to },
     }
 }
 
 // setup M STREAM ROLE CLASS RD DC RA DD
 fn setup(
+    stdout: Stdout,
     state: State,
     nodes: &mut Nodes,
     line: &[u8],
@@ -50,14 +53,15 @@ fn setup(
         let reply = asked.reply;
         return Answer {
             state,
-            to: answers::put_reply(out, to, reply),
+            to: answers::put_reply(stdout, out, to, reply),
         };
     }
-    answers::unread(state, out, to)
+    answers::unread(stdout, state, out, to)
 }
 
 // request M STREAM PAYLOAD
 fn request(
+    stdout: Stdout,
     state: State,
     nodes: &mut Nodes,
     line: &[u8],
@@ -80,22 +84,29 @@ fn request(
         let reply = asked.reply;
         return Answer {
             state,
-            to: put_asked(out, to, asked.there, reply),
+            to: put_asked(stdout, out, to, asked.there, reply),
         };
     }
-    answers::unread(state, out, to)
+    answers::unread(stdout, state, out, to)
 }
 
-fn put_asked(out: &mut Buffer, to: usize, there: bool, reply: Reply) -> usize {
+fn put_asked(stdout: Stdout, out: &mut Buffer, to: usize, there: bool, reply: Reply) -> usize {
     if there {
-        answers::put_reply(out, to, reply)
+        answers::put_reply(stdout, out, to, reply)
     } else {
-        answers::put_dead(out, to)
+        answers::put_dead(stdout, out, to)
     }
 }
 
 // death M
-fn death(state: State, line: &[u8], at: usize, out: &mut Buffer, to: usize) -> Answer {
+fn death(
+    stdout: Stdout,
+    state: State,
+    line: &[u8],
+    at: usize,
+    out: &mut Buffer,
+    to: usize,
+) -> Answer {
     let who = names::module_at(line, at, state.modules);
     if who.ok & words::done(line, who.next) {
         let bench = state.bench;
@@ -105,8 +116,8 @@ fn death(state: State, line: &[u8], at: usize, out: &mut Buffer, to: usize) -> A
                 modules: state.modules,
                 ticks: state.ticks,
             },
-            to: answers::put_dead(out, to),
+            to: answers::put_dead(stdout, out, to),
         };
     }
-    answers::unread(state, out, to)
+    answers::unread(stdout, state, out, to)
 }

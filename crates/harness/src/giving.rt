@@ -6,11 +6,12 @@ use crate::lines::Verb;
 use crate::{answers, names};
 use bench_in_code::outbox::{Frame, Frames};
 use bench_in_code::{Bench, Giving, Nodes};
+use std::io::Stdout;
 use text::{Buffer, numbers, output, part, words};
 use wire::reply::Reply;
 
 // The state and the frames after a line, and the index in the output past its answer.
-#[derive(Drop)]
+#[derive(Clone, Copy)]
 pub struct Gave {
     pub frames: Frames,
     pub state: State,
@@ -18,6 +19,7 @@ pub struct Gave {
 }
 
 pub(crate) fn line(
+    stdout: Stdout,
     verb: Verb,
     state: State,
     nodes: &mut Nodes,
@@ -28,14 +30,15 @@ pub(crate) fn line(
 ) -> Gave {
     let w = words::word_at(line, 0);
     if let Verb::Give = verb {
-        give(state, nodes, frames, line, w.next, out, to)
+        give(stdout, state, nodes, frames, line, w.next, out, to)
     } else {
-        modules(state, nodes, frames, line, w.next, out, to)
+        modules(stdout, state, nodes, frames, line, w.next, out, to)
     }
 }
 
 // modules N
 fn modules(
+    stdout: Stdout,
     state: State,
     nodes: &mut Nodes,
     frames: Frames,
@@ -46,18 +49,19 @@ fn modules(
 ) -> Gave {
     let n = numbers::usize_at(line, at, Bench::PLACES);
     if n.ok & (State::LEAST <= n.value) & words::done(line, n.next) {
-        let past = output::put(out, to, b"modules ");
+        let past = output::put(stdout, out, to, b"modules ");
         return Gave {
             frames: Frames::none(),
             state: State::of(n.value, nodes),
-            to: output::put_decimal(out, past, n.value as u64),
+            to: output::put_decimal(stdout, out, past, n.value as u64),
         };
     }
-    unread(state, frames, out, to)
+    unread(stdout, state, frames, out, to)
 }
 
 // give M
 fn give(
+    stdout: Stdout,
     state: State,
     nodes: &mut Nodes,
     frames: Frames,
@@ -76,39 +80,46 @@ fn give(
         return Gave {
             frames: kept,
             state,
-            to: put_giving(out, to, giving, frames.count, frame),
+            to: put_giving(stdout, out, to, giving, frames.count, frame),
         };
     }
-    unread(state, frames, out, to)
+    unread(stdout, state, frames, out, to)
 }
 
 // The answer to a line that can't be read: nothing changes.
-fn unread(state: State, frames: Frames, out: &mut Buffer, to: usize) -> Gave
+fn unread(stdout: Stdout, state: State, frames: Frames, out: &mut Buffer, to: usize) -> Gave
     ensures { (result.state ≡ state) × (result.frames ≡ frames) }
 {
     Gave {
         frames,
         state,
-        to: output::put_byte(out, to, b'?'),
+        to: output::put_byte(stdout, out, to, b'?'),
     }
 }
 
-fn put_giving(out: &mut Buffer, to: usize, giving: Giving, number: usize, frame: Frame) -> usize {
+fn put_giving(
+    stdout: Stdout,
+    out: &mut Buffer,
+    to: usize,
+    giving: Giving,
+    number: usize,
+    frame: Frame,
+) -> usize {
     match giving {
-        Giving::Dead => answers::put_dead(out, to),
-        Giving::Nothing => answers::put_reply(out, to, Reply::Nothing),
-        Giving::Full => output::put_byte(out, to, b'?'),
-        Giving::Out => put_frame(out, to, number, frame),
+        Giving::Dead => answers::put_dead(stdout, out, to),
+        Giving::Nothing => answers::put_reply(stdout, out, to, Reply::Nothing),
+        Giving::Full => output::put_byte(stdout, out, to, b'?'),
+        Giving::Out => put_frame(stdout, out, to, number, frame),
     }
 }
 
 // `0 FRAME IDENT PAYLOAD`.
-fn put_frame(out: &mut Buffer, to: usize, number: usize, frame: Frame) -> usize {
-    let reply = answers::put_reply(out, to, Reply::Done);
-    let start = output::put_byte(out, reply, b' ');
-    let mid = output::put_parted(out, start, number as u64, b' ');
+fn put_frame(stdout: Stdout, out: &mut Buffer, to: usize, number: usize, frame: Frame) -> usize {
+    let reply = answers::put_reply(stdout, out, to, Reply::Done);
+    let start = output::put_byte(stdout, out, reply, b' ');
+    let mid = output::put_parted(stdout, out, start, number as u64, b' ');
     let id = frame.id;
-    let past = output::put_parted(out, mid, id.0 as u64, b' ');
+    let past = output::put_parted(stdout, out, mid, id.0 as u64, b' ');
     let bytes = frame.all_bytes();
-    output::put_hex(out, past, part(&bytes, 0, frame.payload_length()))
+    output::put_hex(stdout, out, past, part(&bytes, 0, frame.payload_length()))
 }

@@ -1,16 +1,17 @@
 // The line at hand, and what its first word asks for.
+use std::io::Stdout;
 use text::input::{Kind, Step};
 use text::{Buffer, comments, output, part, words};
 
 // What a line goes by: the frames given out change, one of them is sent, or they are left alone.
-#[derive(Drop)]
+#[derive(Clone, Copy)]
 pub enum Route {
     Giving,
     Sending,
     Other,
 }
 
-#[derive(Drop)]
+#[derive(Clone, Copy)]
 pub enum Verb {
     Modules,
     SetUp,
@@ -101,10 +102,10 @@ pub(crate) fn route_of(verb: Verb) -> Route {
 }
 
 // Ends an answer with its newline.
-pub(crate) fn ended(verb: Verb, out: &mut Buffer, to: usize) -> usize {
+pub(crate) fn ended(stdout: Stdout, verb: Verb, out: &mut Buffer, to: usize) -> usize {
     match verb {
         Verb::Skip => to,
         Verb::Wait => to,
-        _ => output::put_byte(out, to, b'\n'),
+        _ => output::put_byte(stdout, out, to, b'\n'),
     }
 }

@@ -1,4 +1,6 @@
 // Runs a bench history by lines of text, one answer line for each line that is not skipped.
+#![tactic(auto)]
+
 use crate::answers::State;
 use crate::lines::Route;
 use bench_in_code::outbox::Frames;
@@ -15,7 +17,9 @@ mod records;
 mod sending;
 mod ticking;
 
-fn main() {
+fn main(rt: HostRuntime) {
+    let stdin = rt.stdin();
+    let stdout = rt.stdout();
     let mut buf = [0u8; SIZE];
     let mut out = [0u8; SIZE];
     let mut input = Input::new();
@@ -35,7 +39,9 @@ fn main() {
         let route = lines::route_of(verb);
         match route {
             Route::Giving => {
-                let gave = giving::line(verb, state, &mut nodes, frames, line, &mut out, to);
+                let gave = giving::line(
+                    stdout, verb, state, &mut nodes, frames, line, &mut out, to,
+                );
                 frames = gave.frames;
                 state = gave.state;
                 to = gave.to;
@@ -43,19 +49,21 @@ fn main() {
             Route::Sending => {
                 let named = sending::frame_in(frames, line);
                 let answer = sending::line(
-                    verb, state, &mut nodes, named, line, &mut outs, &mut out, to,
+                    stdout, verb, state, &mut nodes, named, line, &mut outs, &mut out, to,
                 );
                 state = answer.state;
                 to = answer.to;
             }
             Route::Other => {
-                let answer = asking::line(verb, state, &mut nodes, line, &mut outs, &mut out, to);
+                let answer = asking::line(
+                    stdout, verb, state, &mut nodes, line, &mut outs, &mut out, to,
+                );
                 state = answer.state;
                 to = answer.to;
             }
         }
-        to = lines::ended(verb, &mut out, to);
-        let on = input::advance(step, &mut buf, &out, to);
+        to = lines::ended(stdout, verb, &mut out, to);
+        let on = input::advance(stdin, stdout, step, &mut buf, &out, to);
         if input::is_end(step) {
             return;
         }

@@ -6,7 +6,7 @@ use bench_in_code::outbox::Frames;
 use text::numbers;
 
 // Where a word names none, ok is false.
-#[derive(Drop)]
+#[derive(Clone, Copy)]
 pub struct Name {
     pub ok: bool,
     pub value: usize,

@@ -5,11 +5,12 @@ use crate::{answers, names, records};
 use bench_in_code::outbox::{Frame, Frames};
 use bench_in_code::stations::Spoken;
 use bench_in_code::{Bench, Nodes, Outputs, Sending};
+use std::io::Stdout;
 use text::told::put_told;
 use text::{Buffer, output, part, words};
 
 // The frame that a line names, and the index of the next word.
-#[derive(Drop)]
+#[derive(Clone, Copy)]
 pub struct Named {
     pub ok: bool,
     pub frame: Frame,
@@ -27,13 +28,14 @@ pub(crate) fn frame_in(frames: Frames, line: &[u8]) -> Named {
 }
 
 // Those that are to hear a sending.
-#[derive(Drop)]
+#[derive(Clone, Copy)]
 struct Hearers {
     ok: bool,
     to: [bool; Bench::PLACES],
 }
 
 pub(crate) fn line(
+    stdout: Stdout,
     verb: Verb,
     state: State,
     nodes: &mut Nodes,
@@ -44,14 +46,15 @@ pub(crate) fn line(
     to: usize,
 ) -> Answer {
     if let Verb::Full = verb {
-        full(state, nodes, named, line, outs, out, to)
+        full(stdout, state, nodes, named, line, outs, out, to)
     } else {
-        short(state, nodes, named, line, outs, out, to)
+        short(stdout, state, nodes, named, line, outs, out, to)
     }
 }
 
 // full F
 fn full(
+    stdout: Stdout,
     state: State,
     nodes: &mut Nodes,
     named: Named,
@@ -62,13 +65,23 @@ fn full(
 ) -> Answer {
     if named.ok & words::done(line, named.next) {
         let frame = named.frame;
-        return send(state, nodes, frame, [true; Bench::PLACES], outs, out, to);
+        return send(
+            stdout,
+            state,
+            nodes,
+            frame,
+            [true; Bench::PLACES],
+            outs,
+            out,
+            to,
+        );
     }
-    answers::unread(state, out, to)
+    answers::unread(stdout, state, out, to)
 }
 
 // short F [M ...]
 fn short(
+    stdout: Stdout,
     state: State,
     nodes: &mut Nodes,
     named: Named,
@@ -81,9 +94,9 @@ fn short(
     if named.ok & hearers.ok {
         let frame = named.frame;
         let names = hearers.to;
-        return send(state, nodes, frame, names, outs, out, to);
+        return send(stdout, state, nodes, frame, names, outs, out, to);
     }
-    answers::unread(state, out, to)
+    answers::unread(stdout, state, out, to)
 }
 
 // The modules that the words from an index on name.
@@ -102,6 +115,7 @@ fn hearers_at(line: &[u8], at: usize, modules: usize) -> Hearers {
 }
 
 fn send(
+    stdout: Stdout,
     state: State,
     nodes: &mut Nodes,
     frame: Frame,
@@ -114,13 +128,13 @@ fn send(
     let sent = bench.send(nodes, frame, hearers, outs);
     Answer {
         state,
-        to: put_sent(out, to, sent, outs),
+        to: put_sent(stdout, out, to, sent, outs),
     }
 }
 
-fn put_sent(out: &mut Buffer, to: usize, sent: Sending, outs: &Outputs) -> usize {
+fn put_sent(stdout: Stdout, out: &mut Buffer, to: usize, sent: Sending, outs: &Outputs) -> usize {
     if !sent.sent {
-        return answers::put_dead(out, to);
+        return answers::put_dead(stdout, out, to);
     }
     let said = sent.said;
     let mut past = to;
@@ -128,20 +142,21 @@ fn put_sent(out: &mut Buffer, to: usize, sent: Sending, outs: &Outputs) -> usize
     let mut i = 0;
     while i < Bench::PLACES {
         let s = said[i];
-        past = put_hearing(out, past, i, heard, s, &outs[i]);
+        past = put_hearing(stdout, out, past, i, heard, s, &outs[i]);
         heard = heard | s.heard;
         i += 1;
     }
     if heard {
         past
     } else {
-        output::put_byte(out, past, b'-')
+        output::put_byte(stdout, out, past, b'-')
     }
 }
 
 // `M:REPLY` of a refusal, else `M:0:TOLD`, and `:STREAM:PAYLOAD` where hearing delivered; a space before it where another heard
 // before. Nothing of one that did not hear.
 fn put_hearing(
+    stdout: Stdout,
     out: &mut Buffer,
     to: usize,
     module: usize,
@@ -152,25 +167,25 @@ fn put_hearing(
     if !said.heard {
         return to;
     }
-    let start = put_space(out, to, more);
-    let mid = output::put_parted(out, start, module as u64, b':');
+    let start = put_space(stdout, out, to, more);
+    let mid = output::put_parted(stdout, out, start, module as u64, b':');
     let reply = said.reply;
     if reply.number() != 0 {
-        return answers::put_reply(out, mid, reply);
+        return answers::put_reply(stdout, out, mid, reply);
     }
-    let done = output::put_parted(out, mid, 0, b':');
+    let done = output::put_parted(stdout, out, mid, 0, b':');
     let told = said.told;
-    let past = put_told(out, done, told.number());
+    let past = put_told(stdout, out, done, told.number());
     if said.len == 0 {
         return past;
     }
-    let end = output::put_byte(out, past, b':');
-    records::put_first(out, end, part(bytes, 0, said.len))
+    let end = output::put_byte(stdout, out, past, b':');
+    records::put_first(stdout, out, end, part(bytes, 0, said.len))
 }
 
-fn put_space(out: &mut Buffer, to: usize, wanted: bool) -> usize {
+fn put_space(stdout: Stdout, out: &mut Buffer, to: usize, wanted: bool) -> usize {
     if wanted {
-        output::put_byte(out, to, b' ')
+        output::put_byte(stdout, out, to, b' ')
     } else {
         to
     }

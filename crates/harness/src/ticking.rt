@@ -4,6 +4,7 @@ use crate::records::Place;
 use crate::{answers, records};
 use bench_in_code::stations::Spoken;
 use bench_in_code::{Bench, Nodes, Outputs};
+use std::io::Stdout;
 use text::{Buffer, numbers, output, part, words};
 
 // The most ticks of one line.
@@ -11,6 +12,7 @@ const TICKS: u64 = 1000000;
 
 // tick
 pub(crate) fn tick(
+    stdout: Stdout,
     state: State,
     nodes: &mut Nodes,
     line: &[u8],
@@ -20,14 +22,15 @@ pub(crate) fn tick(
     to: usize,
 ) -> Answer {
     if (state.modules == 0) | !words::done(line, at) {
-        return answers::unread(state, out, to);
+        return answers::unread(stdout, state, out, to);
     }
-    let past = output::put_decimal(out, to, later(state.ticks, 1));
-    run(state, nodes, 1, false, outs, out, past)
+    let past = output::put_decimal(stdout, out, to, later(state.ticks, 1));
+    run(stdout, state, nodes, 1, false, outs, out, past)
 }
 
 // ticks N
 pub(crate) fn ticks(
+    stdout: Stdout,
     state: State,
     nodes: &mut Nodes,
     line: &[u8],
@@ -38,10 +41,10 @@ pub(crate) fn ticks(
 ) -> Answer {
     let n = numbers::number_at(line, at, TICKS);
     if (state.modules == 0) | !n.ok | !words::done(line, n.next) {
-        return answers::unread(state, out, to);
+        return answers::unread(stdout, state, out, to);
     }
-    let past = output::put_decimal(out, to, later(state.ticks, n.value));
-    run(state, nodes, n.value, true, outs, out, past)
+    let past = output::put_decimal(stdout, out, to, later(state.ticks, n.value));
+    run(stdout, state, nodes, n.value, true, outs, out, past)
 }
 
 // The count does not come round in any time that a program runs.
@@ -51,6 +54,7 @@ fn later(ticks: u64, n: u64) -> u64 {
 
 // So many ticks, with what each dropped and delivered.
 fn run(
+    stdout: Stdout,
     state: State,
     nodes: &mut Nodes,
     n: u64,
@@ -67,7 +71,7 @@ fn run(
         left -= 1;
         tick = later(tick, 1);
         let said = bench.tick(nodes, outs);
-        past = put_told(out, past, said, outs, tick, dated);
+        past = put_told(stdout, out, past, said, outs, tick, dated);
     }
     Answer {
         state: State {
@@ -80,6 +84,7 @@ fn run(
 }
 
 fn put_told(
+    stdout: Stdout,
     out: &mut Buffer,
     to: usize,
     said: [Spoken; Bench::PLACES],
@@ -96,8 +101,8 @@ fn put_told(
             tick,
             dated,
         };
-        past = records::put_dropped(out, past, place, s.dropped);
-        past = records::put_all(out, past, place, part(&outs[i], 0, s.len));
+        past = records::put_dropped(stdout, out, past, place, s.dropped);
+        past = records::put_all(stdout, out, past, place, part(&outs[i], 0, s.len));
         i += 1;
     }
     past

@@ -2,10 +2,11 @@
 // of text for what each is told. Firmware has its registers and queues here.
 use module::tally::Tally;
 use node::slots::Message;
+use std::io::Stdout;
 use wire::ids::BusId;
 
 // What a turn of the loop finds.
-#[derive(Drop)]
+#[derive(Clone, Copy)]
 pub struct Seen {
     // The controller has received a frame.
     pub received: bool,
@@ -75,51 +76,50 @@ fn off() -> Seen {
 }
 
 // A delivered record, for the application.
-pub(crate) fn delivered(record: &[u8]) {
-    io::write_all(1, b"delivered ");
-    hex(record);
+pub(crate) fn delivered(stdout: Stdout, record: &[u8]) {
+    put(stdout, b"delivered ");
+    hex(stdout, record);
 }
 
 // A frame, for the controller.
-pub(crate) fn sent(id: BusId, payload: &[u8]) {
-    io::write_all(1, b"sent ");
-    io::print_decimal(1, id.0 as u64);
+pub(crate) fn sent(stdout: Stdout, id: BusId, payload: &[u8]) {
+    put(stdout, b"sent ");
+    number(stdout, id.0);
     if payload.len() > 0 {
-        io::write_all(1, b" ");
+        put(stdout, b" ");
     }
-    hex(payload);
+    hex(stdout, payload);
 }
 
 // The counts of the replies, in the order of their numbers.
-pub(crate) fn counted(counts: &[u32; Tally::SIZE]) {
-    io::write_all(1, b"tally");
+pub(crate) fn counted(stdout: Stdout, counts: &[u32; Tally::SIZE]) {
+    put(stdout, b"tally");
     let mut i = 0;
     while i < Tally::SIZE {
-        io::write_all(1, b" ");
-        io::print_decimal(1, wide(counts[i]));
+        put(stdout, b" ");
+        number(stdout, counts[i]);
         i += 1;
     }
-    io::write_all(1, b"\n");
+    put(stdout, b"\n");
 }
 
 // A stream was refused at the start: nothing goes on the bus.
-pub(crate) fn halt() {
-    io::write_all(1, b"halted\n");
+pub(crate) fn halt(stdout: Stdout) {
+    put(stdout, b"halted\n");
 }
 
-fn hex(bytes: &[u8]) {
-    let mut i = 0;
-    while i < bytes.len() {
-        io::print_hex(1, byte(bytes[i]), 2);
-        i += 1;
+fn hex(stdout: Stdout, bytes: &[u8]) {
+    for b in bytes {
+        let _ = print!(stdout; "{b:02x}");
     }
-    io::write_all(1, b"\n");
+    put(stdout, b"\n");
 }
 
-fn wide(x: u32) -> u64 {
-    x as u64
+fn number(stdout: Stdout, x: u32) {
+    let _ = stdout.print(x);
 }
 
-fn byte(x: u8) -> u64 {
-    x as u64
+// What cannot be printed is lost.
+fn put(stdout: Stdout, text: &[u8]) {
+    let _ = stdout.write_all(text);
 }

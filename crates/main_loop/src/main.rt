@@ -1,8 +1,11 @@
 // The main loop of a store module: one node between its controller, its timer and its application.
 // `board` stands for all three.
+#![tactic(auto)]
+
 use crate::board::Seen;
 use crate::store::{STATE, STREAMS, Store};
 use node::Node;
+use std::io::Stdout;
 use wire::ids::BusId;
 use wire::reply::Reply;
 
@@ -11,11 +14,12 @@ mod records;
 mod store;
 
 // Every loop has to end to be proved; this one would, after more turns than a module will see.
-fn main() {
+fn main(rt: HostRuntime) {
+    let stdout = rt.stdout();
     let mut store = Store::start();
     let taken = store.tally.counts;
     if taken[0] != STREAMS {
-        board::halt();
+        board::halt(stdout);
         return;
     }
     let mut turn: u64 = 0;
@@ -23,28 +27,28 @@ fn main() {
         let seen = board::look(turn);
         if seen.off {
             let counts = store.tally.counts;
-            board::counted(&counts);
+            board::counted(stdout, &counts);
             return;
         }
-        store = once(store, seen);
+        store = once(stdout, store, seen);
         turn += 1;
     }
 }
 
 // One turn. The timer waits until all that was received is heard.
-fn once(store: Store, seen: Seen) -> Store {
+fn once(stdout: Stdout, store: Store, seen: Seen) -> Store {
     let mut store = store;
     if seen.received {
-        store = hear(store, seen);
+        store = hear(stdout, store, seen);
     } else if seen.elapsed {
-        store = tick(store);
+        store = tick(stdout, store);
     }
     store = request(store, seen);
-    give(store, seen)
+    give(stdout, store, seen)
 }
 
 // The controller has a frame.
-fn hear(store: Store, seen: Seen) -> Store {
+fn hear(stdout: Stdout, store: Store, seen: Seen) -> Store {
     let bytes = seen.bytes;
     let data = &bytes[..];
     let len = records::least(seen.dlc as usize, data.len());
@@ -52,17 +56,17 @@ fn hear(store: Store, seen: Seen) -> Store {
     let node = store.node;
     let answer = node.hear(BusId(seen.id), seen.dlc, &data[0..len], &mut out);
     let reply = answer.reply;
-    records::deliver(&out, answer.written);
+    records::deliver(stdout, &out, answer.written);
     store.after(answer.node, reply)
 }
 
 // The timer's period is over.
-fn tick(store: Store) -> Store {
+fn tick(stdout: Stdout, store: Store) -> Store {
     let mut out = [0u8; Node::TICK_ROOM];
     let node = store.node;
     let answer = node.tick(&mut out);
     let reply = answer.reply;
-    records::deliver(&out, answer.written);
+    records::deliver(stdout, &out, answer.written);
     store.after(answer.node, reply)
 }
 
@@ -85,7 +89,7 @@ fn request(store: Store, seen: Seen) -> Store {
 }
 
 // The controller can take a frame.
-fn give(store: Store, seen: Seen) -> Store {
+fn give(stdout: Stdout, store: Store, seen: Seen) -> Store {
     if !seen.ready {
         return store;
     }
@@ -95,7 +99,7 @@ fn give(store: Store, seen: Seen) -> Store {
     let reply = answer.reply;
     if reply.number() == Reply::Done.number() {
         let len = records::least(answer.len, Node::NEXT_ROOM);
-        board::sent(answer.id, &out[0..len]);
+        board::sent(stdout, answer.id, &out[0..len]);
     }
     store.after(answer.node, reply)
 }

@@ -2,9 +2,10 @@
 ghost use Rattle.std.specs.Prelude.{◌≡◌, min};
 
 use crate::board;
+use std::io::Stdout;
 use wire::delivered::record_at;
 
-pub(crate) fn deliver(out: &[u8], written: usize) {
+pub(crate) fn deliver(stdout: Stdout, out: &[u8], written: usize) {
     let end = least(written, out.len());
     let mut at: usize = 0;
     while at < end {
@@ -13,7 +14,7 @@ pub(crate) fn deliver(out: &[u8], written: usize) {
             return;
         }
         let next = record.next;
-        board::delivered(&out[at..next]);
+        board::delivered(stdout, &out[at..next]);
         at = next;
     }
 }

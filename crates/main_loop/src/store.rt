@@ -14,7 +14,7 @@ pub(crate) const STATE: Stream = Stream(6);
 
 pub(crate) const STREAMS: u32 = 2;
 
-#[derive(Drop)]
+#[derive(Clone, Copy)]
 pub struct Store {
     pub node: Node,
     pub tally: Tally,

@@ -5,6 +5,7 @@ use crate::settings::List;
 use playback::Playback;
 use playback::set_up::Prepared;
 use playback::step::Way;
+use std::io::Stdout;
 use text::window::Window;
 use text::{Buffer, output, part, payloads, window, words};
 use wire::delivered::{RecordAt, record_at};
@@ -14,7 +15,7 @@ use wire::reply::Reply;
 const MOST: usize = 32768;
 
 // How a replay ended, and the index in the output past what it delivered.
-#[derive(Drop)]
+#[derive(Clone, Copy)]
 struct Played {
     reply: u32,
     offset: u64,
@@ -22,31 +23,38 @@ struct Played {
 }
 
 // replay BYTES
-pub(crate) fn replay(list: List, line: &[u8], at: usize, out: &mut Buffer, to: usize) -> Answer {
+pub(crate) fn replay(
+    stdout: Stdout,
+    list: List,
+    line: &[u8],
+    at: usize,
+    out: &mut Buffer,
+    to: usize,
+) -> Answer {
     let mut bytes = [0u8; MOST];
     let read = payloads::payload_at(line, at, &mut bytes);
     if read.ok & words::done(line, read.next) {
         return Answer {
             list,
-            to: replayed(list, part(&bytes, 0, read.len), out, to),
+            to: replayed(stdout, list, part(&bytes, 0, read.len), out, to),
         };
     }
-    answers::unread(list, out, to)
+    answers::unread(stdout, list, out, to)
 }
 
 // REPLY OFFSET[ TICK:STREAM:PAYLOAD].., or REPLY 0 where a setting is refused. The reply stands before the deliveries, so the
 // recording is played twice, and told the second time.
-fn replayed(list: List, recording: &[u8], out: &mut Buffer, to: usize) -> usize {
+fn replayed(stdout: Stdout, list: List, recording: &[u8], out: &mut Buffer, to: usize) -> usize {
     let prepared = prepare(list);
     let reply = prepared.reply;
     let ready = prepared.playback;
     let refused = reply.number();
     if 0 < refused {
-        return put_end(out, to, refused, 0);
+        return put_end(stdout, out, to, refused, 0);
     }
-    let played = play(ready, recording, false, out, to);
-    let past = put_end(out, played.to, played.reply, played.offset);
-    let told = play(ready, recording, true, out, past);
+    let played = play(stdout, ready, recording, false, out, to);
+    let past = put_end(stdout, out, played.to, played.reply, played.offset);
+    let told = play(stdout, ready, recording, true, out, past);
     told.to
 }
 
@@ -73,7 +81,14 @@ fn prepare(list: List) -> Prepared {
     prepared
 }
 
-fn play(ready: Playback, recording: &[u8], telling: bool, out: &mut Buffer, to: usize) -> Played {
+fn play(
+    stdout: Stdout,
+    ready: Playback,
+    recording: &[u8],
+    telling: bool,
+    out: &mut Buffer,
+    to: usize,
+) -> Played {
     let mut playback = ready;
     let mut window = Window {
         from: 0,
@@ -96,7 +111,14 @@ fn play(ready: Playback, recording: &[u8], telling: bool, out: &mut Buffer, to: 
                 to: past,
             };
         }
-        past = tell(telling, out, past, then.ticks, part(&lent, 0, step.written));
+        past = tell(
+            stdout,
+            telling,
+            out,
+            past,
+            then.ticks,
+            part(&lent, 0, step.written),
+        );
         window = window.past(step.took);
         playback = then;
     }
@@ -117,15 +139,22 @@ fn is_over(way: Way) -> bool {
     }
 }
 
-fn tell(telling: bool, out: &mut Buffer, to: usize, tick: u64, records: &[u8]) -> usize {
+fn tell(
+    stdout: Stdout,
+    telling: bool,
+    out: &mut Buffer,
+    to: usize,
+    tick: u64,
+    records: &[u8],
+) -> usize {
     if telling {
-        return put_all(out, to, tick, records);
+        return put_all(stdout, out, to, tick, records);
     }
     to
 }
 
 // ` TICK:STREAM:PAYLOAD` for each delivered record.
-fn put_all(out: &mut Buffer, to: usize, tick: u64, records: &[u8]) -> usize {
+fn put_all(stdout: Stdout, out: &mut Buffer, to: usize, tick: u64, records: &[u8]) -> usize {
     let mut past = to;
     let mut at = 0;
     while at < records.len() {
@@ -133,22 +162,34 @@ fn put_all(out: &mut Buffer, to: usize, tick: u64, records: &[u8]) -> usize {
         if !record.ok {
             return past;
         }
-        past = put_delivery(out, past, tick, records, record);
+        past = put_delivery(stdout, out, past, tick, records, record);
         at = record.next;
     }
     past
 }
 
-fn put_delivery(out: &mut Buffer, to: usize, tick: u64, records: &[u8], record: RecordAt) -> usize {
+fn put_delivery(
+    stdout: Stdout,
+    out: &mut Buffer,
+    to: usize,
+    tick: u64,
+    records: &[u8],
+    record: RecordAt,
+) -> usize {
     let stream = record.stream;
-    let start = output::put_byte(out, to, b' ');
-    let next = output::put_parted(out, start, tick, b':');
-    let past = output::put_parted(out, next, stream.0 as u64, b':');
-    output::put_hex(out, past, part(records, record.payload, record.next))
+    let start = output::put_byte(stdout, out, to, b' ');
+    let next = output::put_parted(stdout, out, start, tick, b':');
+    let past = output::put_parted(stdout, out, next, stream.0 as u64, b':');
+    output::put_hex(
+        stdout,
+        out,
+        past,
+        part(records, record.payload, record.next),
+    )
 }
 
 // REPLY OFFSET
-fn put_end(out: &mut Buffer, to: usize, reply: u32, offset: u64) -> usize {
-    let past = output::put_parted(out, to, reply as u64, b' ');
-    output::put_decimal(out, past, offset)
+fn put_end(stdout: Stdout, out: &mut Buffer, to: usize, reply: u32, offset: u64) -> usize {
+    let past = output::put_parted(stdout, out, to, reply as u64, b' ');
+    output::put_decimal(stdout, out, past, offset)
 }

@@ -1,18 +1,19 @@
 // The list of settings, and the lines that fill it.
 use crate::answers;
 use crate::answers::Answer;
+use std::io::Stdout;
 use text::settings::settings_at;
 use text::{Buffer, output, words};
 use wire::ids::Stream;
 use wire::settings::Settings;
 
-#[derive(Drop)]
+#[derive(Clone, Copy)]
 pub struct Entry {
     pub stream: Stream,
     pub settings: Settings,
 }
 
-#[derive(Drop)]
+#[derive(Clone, Copy)]
 pub struct List {
     // The first len of them.
     pub entries: [Entry; List::MOST],
@@ -42,24 +43,38 @@ impl List {
 }
 
 // settings
-pub(crate) fn settings(list: List, line: &[u8], at: usize, out: &mut Buffer, to: usize) -> Answer {
+pub(crate) fn settings(
+    stdout: Stdout,
+    list: List,
+    line: &[u8],
+    at: usize,
+    out: &mut Buffer,
+    to: usize,
+) -> Answer {
     if words::done(line, at) {
         return Answer {
             list: List::EMPTY,
-            to: output::put(out, to, b"settings"),
+            to: output::put(stdout, out, to, b"settings"),
         };
     }
-    answers::unread(list, out, to)
+    answers::unread(stdout, list, out, to)
 }
 
 // setting STREAM ROLE CLASS RD DC RA DD
-pub(crate) fn setting(list: List, line: &[u8], at: usize, out: &mut Buffer, to: usize) -> Answer {
+pub(crate) fn setting(
+    stdout: Stdout,
+    list: List,
+    line: &[u8],
+    at: usize,
+    out: &mut Buffer,
+    to: usize,
+) -> Answer {
     let read = settings_at(line, at);
     if read.ok & words::done(line, read.next) & (list.len < List::MOST) {
         return Answer {
             list: list.with(read.stream, read.settings),
-            to: output::put_decimal(out, to, list.len as u64),
+            to: output::put_decimal(stdout, out, to, list.len as u64),
         };
     }
-    answers::unread(list, out, to)
+    answers::unread(stdout, list, out, to)
 }

@@ -3,6 +3,7 @@ use crate::answers;
 use crate::answers::Answer;
 use crate::settings::List;
 use heard::writing::{Written, write_heard};
+use std::io::Stdout;
 use text::{Buffer, least, numbers, output, part, payloads, words};
 use wire::ids::BusId;
 
@@ -15,7 +16,14 @@ const MOST: usize = 1024;
 const FILL: u8 = 238;
 
 // write COUNTER IDENT DLC PAYLOAD OUT
-pub(crate) fn write(list: List, line: &[u8], at: usize, out: &mut Buffer, to: usize) -> Answer {
+pub(crate) fn write(
+    stdout: Stdout,
+    list: List,
+    line: &[u8],
+    at: usize,
+    out: &mut Buffer,
+    to: usize,
+) -> Answer {
     let mut bytes = [0u8; PAYLOAD];
     let counter = numbers::u16_at(line, at, u16::MAX);
     let id = numbers::u32_at(line, counter.next, u32::MAX);
@@ -32,13 +40,13 @@ pub(crate) fn write(list: List, line: &[u8], at: usize, out: &mut Buffer, to: us
             dlc.value,
             part(&bytes, 0, payload.len),
         );
-        let past = put_written(out, to, written);
+        let past = put_written(stdout, out, to, written);
         return Answer {
             list,
-            to: output::put_hex(out, past, part(&lent, 0, size.value)),
+            to: output::put_hex(stdout, out, past, part(&lent, 0, size.value)),
         };
     }
-    answers::unread(list, out, to)
+    answers::unread(stdout, list, out, to)
 }
 
 // Into the first bytes of those that are lent.
@@ -48,8 +56,8 @@ fn lend(lent: &mut [u8], size: usize, counter: u16, id: BusId, dlc: u8, payload:
 }
 
 // `REPLY WRITTEN `.
-fn put_written(out: &mut Buffer, to: usize, written: Written) -> usize {
+fn put_written(stdout: Stdout, out: &mut Buffer, to: usize, written: Written) -> usize {
     let reply = written.reply;
-    let past = output::put_parted(out, to, reply.number() as u64, b' ');
-    output::put_parted(out, past, written.written as u64, b' ')
+    let past = output::put_parted(stdout, out, to, reply.number() as u64, b' ');
+    output::put_parted(stdout, out, past, written.written as u64, b' ')
 }

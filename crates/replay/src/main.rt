@@ -1,6 +1,9 @@
 // Replays a recording from standard input on one node, which receives the moments' stream 5, and prints a line for each delivery.
+#![tactic(auto)]
+
 use playback::Playback;
 use playback::step::Way;
+use std::io::Stdin;
 use text::window::Window;
 use text::{SIZE, part, window};
 use wire::ids::Stream;
@@ -14,7 +17,9 @@ const WIDE: usize = 131072;
 
 type Wide = [u8; WIDE];
 
-fn main() {
+fn main(rt: HostRuntime) {
+    let stdin = rt.stdin();
+    let stdout = rt.stdout();
     let mut buf = [0u8; WIDE];
     let mut out = [0u8; SIZE];
     let mut window = Window::new();
@@ -27,20 +32,26 @@ fn main() {
         let step = playback.step(at_hand(window, &buf), window.ended, &mut lent);
         let way = step.way;
         let then = step.playback;
-        let past = lines::put_all(&mut out, to, then.ticks, part(&lent, 0, step.written));
+        let past = lines::put_all(
+            stdout,
+            &mut out,
+            to,
+            then.ticks,
+            part(&lent, 0, step.written),
+        );
         match way {
             Way::On => {
                 window = window.past(step.took);
                 to = past;
             }
             Way::MoreBytes => {
-                to = lines::flush(&out, past);
-                window = read_on(window, &mut buf);
+                to = lines::flush(stdout, &out, past);
+                window = read_on(stdin, window, &mut buf);
             }
             Way::MoreRoom => return,
             Way::Over => {
                 let reply = step.reply;
-                lines::end(&mut out, past, reply.number(), step.offset);
+                lines::end(stdout, &mut out, past, reply.number(), step.offset);
                 return;
             }
         }
@@ -59,6 +70,6 @@ fn at_hand(window: Window, buf: &Wide) -> &[u8] {
     window::bytes(window, buf)
 }
 
-fn read_on(window: Window, buf: &mut Wide) -> Window {
-    window::read(window, buf)
+fn read_on(stdin: Stdin, window: Window, buf: &mut Wide) -> Window {
+    window::read(stdin, window, buf)
 }

@@ -16,7 +16,7 @@ const NONE: StreamRecord = StreamRecord {
 };
 
 // The first records of a list and how many there are, and whether it could be read.
-#[derive(Drop)]
+#[derive(Clone, Copy)]
 pub(crate) struct List {
     pub streams: [StreamRecord; KEPT],
     pub len: usize,
@@ -31,14 +31,14 @@ impl List {
     };
 }
 
-#[derive(Drop)]
+#[derive(Clone, Copy)]
 pub(crate) struct ErrorsAt {
     pub errors: Errors,
     pub next: usize,
     pub ok: bool,
 }
 
-#[derive(Drop)]
+#[derive(Clone, Copy)]
 struct StreamAt {
     stream: StreamRecord,
     next: usize,

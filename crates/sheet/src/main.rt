@@ -1,11 +1,15 @@
 // Answers lines of text that ask for the response-time sheet of a list of streams.
+#![tactic(auto)]
+
 use text::input::Input;
 use text::{SIZE, comments, input};
 
 mod lines;
 mod lists;
 
-fn main() {
+fn main(rt: HostRuntime) {
+    let stdin = rt.stdin();
+    let stdout = rt.stdout();
     let mut buf = [0u8; SIZE];
     let mut out = [0u8; SIZE];
     let mut input = Input::new();
@@ -17,8 +21,8 @@ fn main() {
         let step = input.next(&buf);
         comment = comments::in_comment(step, comment, &buf);
         let line = input::line(step, &buf);
-        let past = lines::answer(step, comment, line, &mut out, to);
-        let on = input::advance(step, &mut buf, &out, past);
+        let past = lines::answer(stdout, step, comment, line, &mut out, to);
+        let on = input::advance(stdin, stdout, step, &mut buf, &out, past);
         if input::is_end(step) {
             return;
         }

@@ -1,0 +1,7 @@
+-- `recording::replays::put_all` is safe and ends: a record ends within the bytes and past its start, and the measure is the bytes that are left.
+use Prim.Native.Nat.{◌-◌}
+use lib.ListN.{length}
+use Rattle.recording.proofs.replays.put_all.Given as goal
+
+abbrev pub decreases-loop-at : goal.decreases-loop-at
+decreases-loop-at l = length l.records - l.at

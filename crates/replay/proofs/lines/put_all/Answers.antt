@@ -1,0 +1,10 @@
+-- `replay::lines::put_all` is safe and ends: a record ends within the bytes and past its start, and the measure is the bytes that are left.
+use native.Mathlib.Omega.{arith}
+use borrow.Author.Tests.{not-false}
+use Rattle.wire.proofs.Reading.{within}
+use Rattle.replay.proofs.lines.put_all.Goals as goal
+
+pub loop-at-smaller : goal.loop-at-smaller
+loop-at-smaller c =
+    let w = within _ _ _ c.record_at-record.ensures (not-false _ c.if-not-record.false) in
+    omega arith
