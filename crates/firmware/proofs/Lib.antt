@@ -1,5 +1,4 @@
 -- What is shown of the promises of firmware.
-pub mod Answering
 pub mod Judging
 pub mod LentAnswering
 pub mod Refusals

@@ -61,6 +61,7 @@ pub extern "C" fn kosmydore_fresh() -> Node
     Node::fresh()
 }
 
+#[tactic(auto, using(crate::proofs::Judging::set_up_so))]
 #[unsafe(no_mangle)]
 pub extern "C" fn kosmydore_set_up(node: Node, stream: u32, settings: SettingsC) -> AnsweredC
     ensures { result ≡ answered_c (as_answered (set_up (record { 0 = stream }) (in_numbers settings) node)) }
@@ -75,6 +76,7 @@ pub extern "C" fn kosmydore_set_up(node: Node, stream: u32, settings: SettingsC)
     }
 }
 
+#[tactic(auto, using(crate::proofs::Judging::heard_so))]
 #[unsafe(no_mangle)]
 pub extern "C" fn kosmydore_hear(
     node: Node,

@@ -40,6 +40,7 @@ pub(crate) fn dlc_of(dlc: u32) -> u8
 }
 
 // Only whether the numbers fit is tested here: the node's call tests whether they are legal.
+#[tactic(auto, unfolding(crate::specs::Judged::settings_of))]
 pub(crate) fn settings_of(settings: SettingsC) -> Settings
     ensures { result ≡ settings_of settings }
 {

@@ -67,6 +67,7 @@ pub extern "C" fn kosmydore_module_fresh(bytes: &mut [u8]) -> u32
     reply.number()
 }
 
+#[tactic(auto, using(crate::proofs::LentAnswering::lent_set_up_so, crate::proofs::LentAnswering::leaves_so))]
 #[unsafe(no_mangle)]
 pub extern "C" fn kosmydore_module_set_up(
     bytes: &mut [u8],
@@ -86,6 +87,7 @@ pub extern "C" fn kosmydore_module_set_up(
     number
 }
 
+#[tactic(auto, using(crate::proofs::LentAnswering::lent_heard_so, crate::proofs::LentAnswering::leaves_so))]
 #[unsafe(no_mangle)]
 pub extern "C" fn kosmydore_module_hear(
     bytes: &mut [u8],

@@ -67,6 +67,7 @@ pub extern "C" fn kosmydore_split_code(id: u32) -> u32
 }
 
 // The reply to the settings of a stream.
+#[tactic(auto, unfolding(crate::specs::Boundary::settings_reply))]
 #[unsafe(no_mangle)]
 pub extern "C" fn kosmydore_settings_reply(
     stream: u32,
