@@ -1,4 +1,4 @@
-//! From the program that `rt mir firmware` prints to one C99 file and its header. What is not known is an error that names
+//! From the program that `tools/mir` writes out to one C99 file and its header. What is not known is an error that names
 //! it; nothing is skipped and nothing guessed. `README.md` says what the translation relies on.
 
 pub mod c_file;

@@ -1,4 +1,4 @@
-//! The text that `rt mir` prints, as a term: words, names in quotes, and lists in parentheses. Each part knows its place.
+//! The text that `tools/mir` writes, as a term: words, names in quotes, and lists in parentheses. Each part knows its place.
 
 use crate::unknown::{unknown, Answer};
 
