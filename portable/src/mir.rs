@@ -76,6 +76,10 @@ pub enum Op {
     Lt,
     Le,
     Offset,
+    /// Modulo 2 to the width.
+    WrapAdd,
+    WrapSub,
+    WrapMul,
 }
 
 #[derive(Clone, Debug, PartialEq, Eq)]
@@ -397,6 +401,9 @@ fn operation(term: &Term) -> Answer<Op> {
         ("eq", []) => (Op::Eq, None),
         ("ne", []) => (Op::Ne, None),
         ("offset", []) => (Op::Offset, None),
+        ("wrapAdd", []) => (Op::WrapAdd, None),
+        ("wrapSub", []) => (Op::WrapSub, None),
+        ("wrapMul", []) => (Op::WrapMul, None),
         _ => return unknown(term.at, format!("the operation {}", term.named())),
     };
     sign.map_or(Ok(()), unsigned)?;

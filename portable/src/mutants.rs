@@ -173,6 +173,8 @@ pub fn of_mir(text: &str) -> Vec<Change> {
             ("(op2 or ", "(op2 and "),
             ("(op2 (add unsigned)", "(op2 (sub unsigned)"),
             ("(op2 (sub unsigned)", "(op2 (add unsigned)"),
+            ("(op2 wrapAdd ", "(op2 wrapSub "),
+            ("(op2 wrapSub ", "(op2 wrapAdd "),
             ("(rvOpd true)", "(rvOpd false)"),
             ("(rvOpd false)", "(rvOpd true)"),
             ("(field 2)", "(field 3)"),

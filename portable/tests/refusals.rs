@@ -50,6 +50,18 @@ fn what_is_known_is_translated() {
 }
 
 #[test]
+fn what_wraps_is_cut_back() {
+    for (op, sign) in [("wrapAdd", "+"), ("wrapSub", "-"), ("wrapMul", "*")] {
+        let narrow = format!("(op2 {op} (copy (place 2 lnil)) (int 16 3))");
+        let wide = format!("(op2 {op} (copy (place 1 lnil)) (int 32 3))");
+        let body = format!("(seq (assign (place 2 lnil) (rvOpd (int 16 9))) (seq (assign (place 2 lnil) {narrow}) (seq (assign (place 0 lnil) {wide}) return)))");
+        let c = said(&program(&body)).expect("C");
+        assert!(c.contains(&format!("v2 = (uint16_t)((uint32_t)v2 {sign} 3u);")), "{c}");
+        assert!(c.contains(&format!("v0 = x {sign} UINT32_C(3);")), "{c}");
+    }
+}
+
+#[test]
 fn the_place_is_named() {
     let text = program("(seq (forever skip) return)");
     let column = text.lines().nth(1).and_then(|line| line.find("(forever")).expect("it is there") + 1;

@@ -293,9 +293,10 @@ impl CFunction<'_, '_> {
         }
         self.same(&a.ty, &b.ty)?;
         let sign = match op {
-            Op::Add => "+",
-            Op::Sub => "-",
-            Op::Mul => "*",
+            // C's unsigned numbers wrap, and those of 8 and 16 bits are cut back below.
+            Op::Add | Op::WrapAdd => "+",
+            Op::Sub | Op::WrapSub => "-",
+            Op::Mul | Op::WrapMul => "*",
             Op::Div => "/",
             Op::Rem => "%",
             Op::And => "&",
