@@ -2,8 +2,8 @@
  * Kosmydore 6.0.0: the node in C99
  *
  * Made by `./kosmydore portable DIR` from the proved program of the crate `firmware`. Not to be edited.
- *   program  sha256 399debce4491612b7863ed78406e05dfac58789db7d687461779e437489824ac
- *   kit      rattle-kit-5b logic 064da1ca440f63e7
+ *   program  sha256 becb32417ac8ae8d8bbcc87a9f12fb4e2446ecd6a42a5a3a63c31df0cbcef52e
+ *   kit      rattle-kit-13f logic dac8208d650f15bf
  *
  * What this rests on. Proved is the program before its translation: every answer and every byte, for every input that
  * keeps the duties below. The translator to C and the C compiler stand in the place of the kit's back end. They are
@@ -1118,16 +1118,17 @@ KD_STATIC void kd_node_bytes_slots_put_slot(struct kd_slice v1, uint64_t v2, str
     v14.at = v13;
     v14.length = (size_t)(uint64_t)v1.length;
     v9 = UINT64_C(16) + v4;
-    v10 = kd_node_bytes_slots_reach_row(v3.settings);
+    struct kosmydore_slot_settings v15 = v3.settings;
+    v10 = kd_node_bytes_slots_reach_row(v15);
     kd_node_bytes_numbers_put_eight(v14, v9, v10);
     struct kd_u8_8 v5;
     memcpy(v5.at, v3.message.bytes, sizeof(struct kd_u8_8));
-    uint8_t *v15 = v1.at;
-    struct kd_slice v16;
-    v16.at = v15;
-    v16.length = (size_t)(uint64_t)v1.length;
+    uint8_t *v16 = v1.at;
+    struct kd_slice v17;
+    v17.at = v16;
+    v17.length = (size_t)(uint64_t)v1.length;
     v9 = UINT64_C(24) + v4;
-    kd_node_bytes_numbers_put_eight(v16, v9, v5);
+    kd_node_bytes_numbers_put_eight(v17, v9, v5);
     return;
 }
 
@@ -1478,7 +1479,7 @@ KD_STATIC bool kd_node_slots_Slot_is_receiver(struct kosmydore_slot v1)
 KD_STATIC bool kd_wire_class_carries(uint8_t v1, uint32_t v2)
 {
     bool v0;
-    static const struct kd_bool_4_3 v7 = {{{{false, false, false, true}}, {{true, false, false, false}}, {{true, true, true, false}}}};
+    static const struct kd_bool_4_3 v17 = {{{{false, false, false, true}}, {{true, false, false, false}}, {{true, true, true, false}}}};
 
     uint64_t v3 = (uint64_t)v1;
     uint64_t v4 = (uint64_t)v2;
@@ -1486,13 +1487,14 @@ KD_STATIC bool kd_wire_class_carries(uint8_t v1, uint32_t v2)
     if (v5) {
         bool v6 = v4 < UINT64_C(4);
         if (v6) {
-            uint64_t v11 = v3 * UINT64_C(4);
-            uint8_t *v12 = (uint8_t *)&v7;
-            uint8_t *v13 = v12 + (size_t)v11;
-            uint8_t *v14 = v13;
-            uint8_t *v15 = v14 + (size_t)v4;
-            bool v16 = *(bool *)(void *)v15;
-            v0 = v16;
+            uint8_t *v7 = (uint8_t *)&v17;
+            uint64_t v8 = v3 * UINT64_C(4);
+            uint8_t *v9 = v7;
+            uint8_t *v10 = v9 + (size_t)v8;
+            uint8_t *v11 = v10;
+            uint8_t *v12 = v11 + (size_t)v4;
+            bool v13 = *(bool *)(void *)v12;
+            v0 = v13;
             return v0;
         }
     }
@@ -2147,22 +2149,12 @@ struct kosmydore_module_heard kosmydore_module_hear(uint8_t *node, size_t node_l
     return v0;
 }
 
-/* std::num::wrapping_add_u16 */
-KD_STATIC uint16_t kd_std_num_wrapping_add_u16(uint16_t v1, uint16_t v2)
+/* core::num::wrapping_add_u16 */
+KD_STATIC uint16_t kd_core_num_wrapping_add_u16(uint16_t v1, uint16_t v2)
 {
     uint16_t v0;
-    uint16_t v5;
 
-    uint16_t v3 = (uint16_t)((uint32_t)65535u - v2);
-    bool v4 = v1 <= v3;
-    if (v4) {
-        v5 = (uint16_t)((uint32_t)v1 + v2);
-    } else {
-        uint16_t v6 = (uint16_t)((uint32_t)65535u - v2);
-        uint16_t v7 = (uint16_t)((uint32_t)v1 - v6);
-        v5 = (uint16_t)((uint32_t)v7 - 1u);
-    }
-    v0 = v5;
+    v0 = (uint16_t)((uint32_t)v1 + v2);
     return v0;
 }
 
@@ -2171,7 +2163,7 @@ KD_STATIC uint16_t kd_node_tick_next(uint16_t v1)
 {
     uint16_t v0;
 
-    v0 = kd_std_num_wrapping_add_u16(v1, 1u);
+    v0 = kd_core_num_wrapping_add_u16(v1, 1u);
     return v0;
 }
 
@@ -2224,21 +2216,12 @@ KD_STATIC uint16_t kd_node_bytes_slots_stamp_at(struct kd_slice v1, uint64_t v2)
     return v0;
 }
 
-/* std::num::wrapping_sub_u16 */
-KD_STATIC uint16_t kd_std_num_wrapping_sub_u16(uint16_t v1, uint16_t v2)
+/* core::num::wrapping_sub_u16 */
+KD_STATIC uint16_t kd_core_num_wrapping_sub_u16(uint16_t v1, uint16_t v2)
 {
     uint16_t v0;
-    uint16_t v4;
 
-    bool v3 = v2 <= v1;
-    if (v3) {
-        v4 = (uint16_t)((uint32_t)v1 - v2);
-    } else {
-        uint16_t v5 = (uint16_t)((uint32_t)65535u - v2);
-        uint16_t v6 = (uint16_t)((uint32_t)v1 + v5);
-        v4 = (uint16_t)((uint32_t)v6 + 1u);
-    }
-    v0 = v4;
+    v0 = (uint16_t)((uint32_t)v1 - v2);
     return v0;
 }
 
@@ -2247,7 +2230,7 @@ KD_STATIC uint16_t kd_node_tick_age(uint16_t v1, uint16_t v2)
 {
     uint16_t v0;
 
-    v0 = kd_std_num_wrapping_sub_u16(v1, v2);
+    v0 = kd_core_num_wrapping_sub_u16(v1, v2);
     return v0;
 }
 
@@ -2405,17 +2388,18 @@ KD_STATIC void kd_node_bytes_slots_put_message(struct kd_slice v1, uint64_t v2, 
     v7 = UINT64_C(11) + v4;
     uint8_t *v12 = v1.at + (size_t)v7;
     *v12 = v6;
+    uint8_t v13 = v3.length;
     v7 = UINT64_C(12) + v4;
-    uint8_t *v13 = v1.at + (size_t)v7;
-    *v13 = v3.length;
+    uint8_t *v14 = v1.at + (size_t)v7;
+    *v14 = v13;
     struct kd_u8_8 v5;
     memcpy(v5.at, v3.bytes, sizeof(struct kd_u8_8));
-    uint8_t *v14 = v1.at;
-    struct kd_slice v15;
-    v15.at = v14;
-    v15.length = (size_t)(uint64_t)v1.length;
+    uint8_t *v15 = v1.at;
+    struct kd_slice v16;
+    v16.at = v15;
+    v16.length = (size_t)(uint64_t)v1.length;
     v7 = UINT64_C(24) + v4;
-    kd_node_bytes_numbers_put_eight(v15, v7, v5);
+    kd_node_bytes_numbers_put_eight(v16, v7, v5);
     return;
 }
 
@@ -2554,34 +2538,35 @@ KD_STATIC uint32_t kd_node_bytes_tick_lapse_at(struct kd_slice v1, uint64_t v2, 
         struct kd_slice v38;
         v38.at = v37;
         v38.length = (size_t)(uint64_t)v1.length;
-        kd_node_bytes_slots_put_message(v38, v2, v8.message);
-        uint8_t *v39 = v1.at;
-        struct kd_slice v40;
-        v40.at = v39;
-        v40.length = (size_t)(uint64_t)v1.length;
-        kd_node_bytes_slots_put_abort(v40, v2, v8.pending.abort);
+        struct kosmydore_message v39 = v8.message;
+        kd_node_bytes_slots_put_message(v38, v2, v39);
+        uint8_t *v40 = v1.at;
+        struct kd_slice v41;
+        v41.at = v40;
+        v41.length = (size_t)(uint64_t)v1.length;
+        kd_node_bytes_slots_put_abort(v41, v2, v8.pending.abort);
         v0 = UINT32_C(1);
         return v0;
     }
-    uint8_t *v41 = v1.at;
-    struct kd_slice v42;
-    v42.at = v41;
-    v42.length = (size_t)(uint64_t)v1.length;
-    v15 = kd_node_bytes_slots_deliver_delay_at(v42, v2);
+    uint8_t *v42 = v1.at;
+    struct kd_slice v43;
+    v43.at = v42;
+    v43.length = (size_t)(uint64_t)v1.length;
+    v15 = kd_node_bytes_slots_deliver_delay_at(v43, v2);
     v14 = v4 <= v15;
     if (v14) {
         v0 = UINT32_C(0);
         return v0;
     }
-    uint8_t *v43 = v1.at;
-    struct kd_slice v44;
-    v44.at = v43;
-    v44.length = (size_t)(uint64_t)v1.length;
-    struct kosmydore_slot v9 = kd_node_bytes_slots_slot_at(v44, v2);
+    uint8_t *v44 = v1.at;
+    struct kd_slice v45;
+    v45.at = v44;
+    v45.length = (size_t)(uint64_t)v1.length;
+    struct kosmydore_slot v9 = kd_node_bytes_slots_slot_at(v45, v2);
     v11 = v5 == 256u;
     if (v11) {
-        bool v45 = kd_node_slots_Slot_due(v9, v4);
-        v0 = kd_node_bytes_tick_due_or_none(v45);
+        bool v46 = kd_node_slots_Slot_due(v9, v4);
+        v0 = kd_node_bytes_tick_due_or_none(v46);
         return v0;
     }
     v14 = kd_node_slots_Slot_hold_over(v9, v4);
@@ -2591,11 +2576,12 @@ KD_STATIC uint32_t kd_node_bytes_tick_lapse_at(struct kd_slice v1, uint64_t v2, 
         return v0;
     }
     struct kosmydore_slot v10 = kd_node_slots_Slot_hold_ended(v9);
-    uint8_t *v47 = v1.at;
-    struct kd_slice v48;
-    v48.at = v47;
-    v48.length = (size_t)(uint64_t)v1.length;
-    kd_node_bytes_slots_put_message(v48, v2, v10.message);
+    uint8_t *v48 = v1.at;
+    struct kd_slice v49;
+    v49.at = v48;
+    v49.length = (size_t)(uint64_t)v1.length;
+    struct kosmydore_message v50 = v10.message;
+    kd_node_bytes_slots_put_message(v49, v2, v50);
     v0 = UINT32_C(0);
     return v0;
 }
@@ -2646,22 +2632,24 @@ KD_STATIC uint64_t kd_node_bytes_tick_deliver_at(struct kd_slice v1, uint64_t v2
     struct kd_slice v13;
     v13.at = v12;
     v13.length = (size_t)(uint64_t)v1.length;
-    kd_node_bytes_slots_put_message(v13, v2, v5.message);
+    struct kosmydore_message v14 = v5.message;
+    kd_node_bytes_slots_put_message(v13, v2, v14);
     struct kosmydore_message v6 = v4.message;
     memcpy(v7.at, v6.bytes, sizeof(struct kd_u8_8));
     uint64_t v8 = kd_node_slots_Message_payload_length(v6);
-    uint8_t *v14 = v3.at;
-    struct kd_slice v15;
-    v15.at = v14;
-    v15.length = (size_t)(uint64_t)v3.length;
-    uint8_t *v16 = (uint8_t *)&v7;
-    uint8_t *v17 = v16 + (size_t)UINT64_C(0);
-    uint64_t v18 = v8 - UINT64_C(0);
-    uint8_t *v19 = v17;
-    struct kd_slice v20;
-    v20.at = v19;
-    v20.length = (size_t)v18;
-    v0 = kd_wire_delivered_write_record(v15, v4.stream, v20);
+    uint8_t *v15 = v3.at;
+    struct kd_slice v16;
+    v16.at = v15;
+    v16.length = (size_t)(uint64_t)v3.length;
+    uint32_t v17 = v4.stream;
+    uint8_t *v18 = (uint8_t *)&v7;
+    uint8_t *v19 = v18 + (size_t)UINT64_C(0);
+    uint64_t v20 = v8 - UINT64_C(0);
+    uint8_t *v21 = v19;
+    struct kd_slice v22;
+    v22.at = v21;
+    v22.length = (size_t)v20;
+    v0 = kd_wire_delivered_write_record(v16, v17, v22);
     return v0;
 }
 
@@ -3147,7 +3135,8 @@ KD_STATIC uint64_t kd_node_next_frame_give_payload(struct kd_slice v1, struct ko
     struct kd_slice v8;
     v8.at = v7;
     v8.length = (size_t)(uint64_t)v1.length;
-    v0 = kd_node_next_frame_put_payload(v8, v2.message);
+    struct kosmydore_message v9 = v2.message;
+    v0 = kd_node_next_frame_put_payload(v8, v9);
     return v0;
 }
 
@@ -3278,9 +3267,11 @@ KD_STATIC struct kd_node_bytes_next_frame_GivenOut kd_node_bytes_next_frame_next
     struct kd_slice v27;
     v27.at = v26;
     v27.length = (size_t)(uint64_t)v1.length;
-    kd_node_bytes_slots_put_pending(v27, v3, v4.pending, v10.pending);
-    uint8_t v28 = 0u;
-    v0.f0 = v28;
+    struct kosmydore_pending v28 = v4.pending;
+    struct kosmydore_pending v29 = v10.pending;
+    kd_node_bytes_slots_put_pending(v27, v3, v28, v29);
+    uint8_t v30 = 0u;
+    v0.f0 = v30;
     v0.f1 = v8;
     v0.f2 = v9;
     return v0;
@@ -3759,47 +3750,48 @@ KD_STATIC struct kd_node_Ticked kd_node_Node_tick(struct kosmydore_node v1, stru
                 struct kd_slice v41;
                 v41.at = v40;
                 v41.length = (size_t)v39;
-                uint8_t *v42 = (uint8_t *)&v14;
-                uint8_t *v43 = v42 + (size_t)UINT64_C(0);
-                uint64_t v44 = v15 - UINT64_C(0);
-                uint8_t *v45 = v43;
-                struct kd_slice v46;
-                v46.at = v45;
-                v46.length = (size_t)v44;
-                v34 = kd_wire_delivered_write_record(v41, v12.stream, v46);
+                uint32_t v42 = v12.stream;
+                uint8_t *v43 = (uint8_t *)&v14;
+                uint8_t *v44 = v43 + (size_t)UINT64_C(0);
+                uint64_t v45 = v15 - UINT64_C(0);
+                uint8_t *v46 = v44;
+                struct kd_slice v47;
+                v47.at = v46;
+                v47.length = (size_t)v45;
+                v34 = kd_wire_delivered_write_record(v41, v42, v47);
                 v5 = v5 + v34;
                 v7 = v7 + UINT32_C(1);
             } else {
-                uint64_t v47 = v9 * UINT64_C(32);
-                uint8_t *v48 = (uint8_t *)&v3.slots;
-                uint8_t *v49 = v48 + (size_t)v47;
-                struct kosmydore_slot v50 = *(struct kosmydore_slot *)(void *)v49;
-                struct kosmydore_slot v16 = v50;
-                bool v51 = kd_node_slots_Slot_late(v16, v11);
-                if (v51) {
-                    struct kosmydore_slot v52 = kd_node_slots_Slot_dropped(v16);
-                    uint64_t v53 = v9 * UINT64_C(32);
-                    uint8_t *v54 = (uint8_t *)&v3.slots;
-                    uint8_t *v55 = v54 + (size_t)v53;
-                    *(struct kosmydore_slot *)(void *)v55 = v52;
+                uint64_t v48 = v9 * UINT64_C(32);
+                uint8_t *v49 = (uint8_t *)&v3.slots;
+                uint8_t *v50 = v49 + (size_t)v48;
+                struct kosmydore_slot v51 = *(struct kosmydore_slot *)(void *)v50;
+                struct kosmydore_slot v16 = v51;
+                bool v52 = kd_node_slots_Slot_late(v16, v11);
+                if (v52) {
+                    struct kosmydore_slot v53 = kd_node_slots_Slot_dropped(v16);
+                    uint64_t v54 = v9 * UINT64_C(32);
+                    uint8_t *v55 = (uint8_t *)&v3.slots;
+                    uint8_t *v56 = v55 + (size_t)v54;
+                    *(struct kosmydore_slot *)(void *)v56 = v53;
                     v6 = v6 + UINT32_C(1);
                 } else {
-                    bool v56 = kd_node_slots_Slot_hold_over(v16, v11);
-                    if (v56) {
-                        struct kosmydore_slot v57 = kd_node_slots_Slot_hold_ended(v16);
-                        uint64_t v58 = v9 * UINT64_C(32);
-                        uint8_t *v59 = (uint8_t *)&v3.slots;
-                        uint8_t *v60 = v59 + (size_t)v58;
-                        *(struct kosmydore_slot *)(void *)v60 = v57;
+                    bool v57 = kd_node_slots_Slot_hold_over(v16, v11);
+                    if (v57) {
+                        struct kosmydore_slot v58 = kd_node_slots_Slot_hold_ended(v16);
+                        uint64_t v59 = v9 * UINT64_C(32);
+                        uint8_t *v60 = (uint8_t *)&v3.slots;
+                        uint8_t *v61 = v60 + (size_t)v59;
+                        *(struct kosmydore_slot *)(void *)v61 = v58;
                     }
                 }
             }
         }
     }
-    struct kosmydore_node v61 = v3;
-    uint8_t v62 = 0u;
-    v0.f0 = v61;
-    v0.f1 = v62;
+    struct kosmydore_node v62 = v3;
+    uint8_t v63 = 0u;
+    v0.f0 = v62;
+    v0.f1 = v63;
     v0.f2 = v5;
     v0.f3 = v6;
     v0.f4 = v7;

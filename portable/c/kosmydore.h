@@ -2,8 +2,8 @@
  * Kosmydore 6.0.0: the header of kosmydore.c
  *
  * Made by `./kosmydore portable DIR` from the proved program of the crate `firmware`. Not to be edited.
- *   program  sha256 399debce4491612b7863ed78406e05dfac58789db7d687461779e437489824ac
- *   kit      rattle-kit-5b logic 064da1ca440f63e7
+ *   program  sha256 becb32417ac8ae8d8bbcc87a9f12fb4e2446ecd6a42a5a3a63c31df0cbcef52e
+ *   kit      rattle-kit-13f logic dac8208d650f15bf
  *
  * What this rests on. Proved is the program before its translation: every answer and every byte, for every input that
  * keeps the duties below. The translator to C and the C compiler stand in the place of the kit's back end. They are
