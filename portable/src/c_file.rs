@@ -6,7 +6,8 @@ use crate::c_function::CFunction;
 use crate::c_types::CTypes;
 use crate::exports::{last, Exports};
 use crate::header::Header;
-use crate::mir::{all, Does, Program};
+use crate::mir::{all, Does, Function, Program};
+use crate::nested::nested;
 use crate::unknown::{unknown, Answer};
 
 /// Every function that is reached, each after those that it calls.
@@ -50,30 +51,50 @@ const STATIC: &str =
 #endif
 ";
 
+/// Where the program has enums with fields.
+const WHOLE: &str = "/* A value is copied whole, also the fields of a variant that it is not: gcc can't tell that these are not looked at. */
+#if defined __GNUC__ && !defined __clang__
+#pragma GCC diagnostic ignored \"-Wmaybe-uninitialized\"
+#endif
+
+";
+
+/// A function in C, nested otherwise where that saves a `goto`.
+fn text(types: &mut CTypes, function: &Function) -> Answer<String> {
+    let gotos = |text: &str| text.matches("goto l").count();
+    let plain = CFunction::new(types, function).text()?;
+    if gotos(&plain) == 0 {
+        return Ok(plain);
+    }
+    let other = Function { body: nested(function.body.clone()), ..function.clone() };
+    let other = CFunction::new(types, &other).text()?;
+    Ok(if gotos(&other) < gotos(&plain) { other } else { plain })
+}
+
 pub fn file(program: &Program, header: &Header, exports: Exports, head: &str, include: &str) -> Answer<String> {
     let mut order = Order { program, seen: BTreeMap::new(), list: Vec::new() };
     exports.functions.iter().try_for_each(|name| order.reach(name, 0))?;
+    let mut types = CTypes::new(program, header, exports);
     let mut names: BTreeMap<String, &str> = BTreeMap::new();
     let offered = |name: &str| exports.functions.contains(&name);
     let structs = program.declared.keys().map(|name| &**name).filter(|name| !program.is_enum(name));
     for name in order.list.iter().copied().chain(structs) {
-        let c = if offered(name) { last(name).to_string() } else { CTypes::c_name(name) };
+        let c = if offered(name) { last(name).to_string() } else { types.c_name(name) };
         if let Some(other) = names.insert(c, name) {
             return unknown(0, format!("{other} and {name}, which have one name in C"));
         }
     }
-    let mut types = CTypes::new(program, header, exports);
     types.structs_agree()?;
     let mut functions = Vec::new();
     for name in &order.list {
-        let function = &program.functions[*name];
-        functions.push(CFunction::new(&mut types, function).text().map_err(|error| error.within(name))?);
+        functions.push(text(&mut types, &program.functions[*name]).map_err(|error| error.within(name))?);
     }
     let declarations = types.declarations()?;
     let assertions = types.assertions()?;
+    let whole = if types.holds_variants() { WHOLE } else { "" };
     Ok(format!(
         "{head}\n#include <limits.h>\n#include <stdbool.h>\n#include <stddef.h>\n#include <stdint.h>\n\
-         #include <string.h>\n\n#include \"{include}\"\n\n{declarations}{assertions}\n{STATIC}\n{}",
+         #include <string.h>\n\n#include \"{include}\"\n\n{declarations}{assertions}\n{whole}{STATIC}\n{}",
         functions.join("\n")
     ))
 }

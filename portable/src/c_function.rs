@@ -13,7 +13,8 @@ mod flow;
 mod tables;
 mod values;
 
-use flow::goes_on;
+use flow::exits_are_within;
+pub use flow::{goes_on, leaves};
 use tables::Tables;
 use values::Spot;
 
@@ -54,6 +55,23 @@ fn born(function: &Function, taken: &BTreeSet<usize>) -> BTreeMap<usize, usize> 
     found
 }
 
+/// What is written of a function so far.
+#[derive(Clone)]
+struct Written {
+    used: BTreeSet<usize>,
+    lines: Vec<String>,
+    depth: usize,
+    temporaries: usize,
+    labels: usize,
+    labelled: BTreeSet<usize>,
+}
+
+impl Written {
+    fn gotos(&self) -> usize {
+        self.lines.iter().filter(|line| line.trim_start().starts_with("goto ")).count()
+    }
+}
+
 pub struct CFunction<'a, 'b> {
     types: &'a mut CTypes<'b>,
     function: &'a Function,
@@ -87,7 +105,16 @@ impl<'a, 'b> CFunction<'a, 'b> {
         let addresses = statements.iter().filter_map(|statement| statement.address_of());
         let taken: BTreeSet<usize> =
             addresses.clone().filter(|place| !place.derefs()).map(|place| place.local).collect();
-        let operands = statements.iter().flat_map(|statement| statement.operands()).filter_map(Operand::place);
+        // what holds nothing is not read where it stands in something else
+        let holds = |place: &&Place| {
+            let ty = types
+                .program
+                .type_at(function, place, function.at)
+                .and_then(|ty| types.program.shape(&ty, function.at));
+            place.steps.is_empty() || ty != Ok(Ty::Unit)
+        };
+        let operands =
+            statements.iter().flat_map(|statement| statement.operands()).filter_map(Operand::place).filter(holds);
         let through = statements.iter().filter_map(|statement| statement.target()).filter(|place| place.derefs());
         let read = addresses.chain(operands).chain(through).map(|place| place.local).chain([0]).collect();
         CFunction {
@@ -106,6 +133,28 @@ impl<'a, 'b> CFunction<'a, 'b> {
             labelled: BTreeSet::new(),
             at: function.at,
         }
+    }
+
+    fn written(&self) -> Written {
+        Written {
+            used: self.used.clone(),
+            lines: self.lines.clone(),
+            depth: self.depth,
+            temporaries: self.temporaries,
+            labels: self.labels,
+            labelled: self.labelled.clone(),
+        }
+    }
+
+    fn back_to(&mut self, before: Written) {
+        Written {
+            used: self.used,
+            lines: self.lines,
+            depth: self.depth,
+            temporaries: self.temporaries,
+            labels: self.labels,
+            labelled: self.labelled,
+        } = before;
     }
 
     fn unknown<T>(&self, what: impl Into<String>) -> Answer<T> {
@@ -141,6 +190,7 @@ impl<'a, 'b> CFunction<'a, 'b> {
                 None => unknown(at, "more parameters than the header declares"),
             };
             match (&ty, self.names) {
+                (Ty::Unit, None) => continue,
                 (Ty::Unit, _) => return unknown(at, "the unit as a parameter"),
                 (_, None) => params.push(self.types.declare(&ty, &format!("v{local}"), at)?),
                 (Ty::Slice(mutable, of), _) => {
@@ -185,13 +235,13 @@ impl<'a, 'b> CFunction<'a, 'b> {
         if names.next().is_some() {
             return unknown(at, "fewer parameters than the header declares");
         }
-        if self.names.is_some() && matches!(answer, Ty::Ptr | Ty::Ref(..) | Ty::Slice(..) | Ty::Array(..) | Ty::Int(64))
-        {
+        let held = self.types.program.variants(&answer).is_some();
+        if self.names.is_some() && (answer.is_address() || held || matches!(answer, Ty::Array(..) | Ty::Int(64))) {
             return unknown(at, format!("{answer:?} as an answer to C"));
         }
         let (kind, name) = match self.names {
             Some(_) => ("", last(&self.function.name).to_string()),
-            None => ("KD_STATIC ", CTypes::c_name(&self.function.name)),
+            None => ("KD_STATIC ", self.types.c_name(&self.function.name)),
         };
         let mut line = format!("{kind}{}", self.types.declare(&answer, &format!("{name}("), at)?);
         let mut signature = String::new();
@@ -222,6 +272,7 @@ impl<'a, 'b> CFunction<'a, 'b> {
         if self.names.is_some() && !self.types.header.functions.contains_key(last(&self.function.name)) {
             return unknown(self.function.at, "a function for C that the header does not declare");
         }
+        exits_are_within(&self.function.body, 0)?;
         self.body(&self.function.body, &[])?;
         self.at = self.function.at;
         let (signature, mut head) = self.signature()?;

@@ -1,21 +1,21 @@
 //! C's types for the program's: numbers are `uintN_t`, an enum is its tag, a struct of one field is that field, and an array
-//! is a struct that holds it, so that it can be passed and answered. In a struct of the header an array is a C array.
+//! is a struct that holds it, so that it can be passed and answered. In a struct of the header an array is a C array. An enum with
+//! fields is a struct: the tag, and beside it the fields of each variant. What holds nothing is left out.
 
-use std::collections::BTreeSet;
+use std::collections::{BTreeMap, BTreeSet};
 use std::fmt::Write;
 
 use crate::exports::Exports;
 use crate::header::Header;
 use crate::mir::{Program, Ty};
+use crate::names::{names, PREFIX};
 use crate::unknown::{unknown, Answer};
-
-/// Before every name that the C file does not offer.
-pub const PREFIX: &str = "kd_";
 
 pub struct CTypes<'a> {
     pub program: &'a Program,
     pub header: &'a Header,
     pub exports: Exports<'a>,
+    names: BTreeMap<String, String>,
     /// The structs and arrays that are used, each after what it holds.
     used: Vec<Ty>,
     /// Those that stand behind an address.
@@ -32,11 +32,17 @@ pub struct CField<'a> {
 
 impl<'a> CTypes<'a> {
     pub fn new(program: &'a Program, header: &'a Header, exports: Exports<'a>) -> CTypes<'a> {
-        CTypes { program, header, exports, used: Vec::new(), behind: BTreeSet::new(), slices: false }
+        let names = names(program);
+        CTypes { program, header, exports, names, used: Vec::new(), behind: BTreeSet::new(), slices: false }
     }
 
-    pub fn c_name(name: &str) -> String {
-        format!("{PREFIX}{}", name.replace("::", "_"))
+    /// Without the prefix.
+    fn bare_name(&self, name: &str) -> String {
+        self.names.get(name).cloned().unwrap_or_else(|| name.replace("::", "_"))
+    }
+
+    pub fn c_name(&self, name: &str) -> String {
+        format!("{PREFIX}{}", self.bare_name(name))
     }
 
     fn header_name(&self, name: &str) -> Option<&'a str> {
@@ -44,7 +50,7 @@ impl<'a> CTypes<'a> {
     }
 
     pub fn struct_name(&self, name: &str) -> String {
-        self.header_name(name).map_or_else(|| CTypes::c_name(name), str::to_string)
+        self.header_name(name).map_or_else(|| self.c_name(name), str::to_string)
     }
 
     pub fn field(&self, name: &str, number: usize, at: usize) -> Answer<CField<'a>> {
@@ -70,6 +76,9 @@ impl<'a> CTypes<'a> {
             };
             for (number, field) in fields.iter().enumerate() {
                 let (field, in_header) = (self.program.shape(field, 0)?, self.field(name, number, 0)?);
+                if field.is_address() || field == Ty::Unit || self.program.variants(&field).is_some() {
+                    return unknown(0, format!("{field:?} in struct {c} of the header"));
+                }
                 let element = if let Ty::Array(of, _) = &field { (**of).clone() } else { field };
                 let says = in_header.in_header.unwrap_or_default();
                 if self.of(&element, 0)? != says && (element, says) != (Ty::Int(64), "size_t") {
@@ -86,7 +95,7 @@ impl<'a> CTypes<'a> {
             Ty::Int(bits) => format!("u{bits}"),
             Ty::Bool => "bool".to_string(),
             Ty::Array(of, count) => format!("{}_{count}", self.part_name(of, at)?),
-            Ty::Named(name) => name.replace("::", "_"),
+            Ty::Named(name) => self.bare_name(name),
             _ => return unknown(at, format!("an array of {ty:?}")),
         })
     }
@@ -130,7 +139,7 @@ impl<'a> CTypes<'a> {
         }
         let holds = match ty {
             Ty::Array(of, _) => vec![(**of).clone()],
-            _ => self.program.fields(ty, at)?.unwrap_or_default().to_vec(),
+            _ => self.members(ty, at)?.into_iter().map(|(_, field)| field).collect(),
         };
         for held in holds {
             let held = self.program.shape(&held, at)?;
@@ -140,11 +149,43 @@ impl<'a> CTypes<'a> {
         Ok(())
     }
 
+    /// What stands in the struct for a type of several fields, or for an enum with fields, in C: names and shapes.
+    fn members(&self, ty: &Ty, at: usize) -> Answer<Vec<(String, Ty)>> {
+        let mut members = Vec::new();
+        if let Some(variants) = self.program.variants(ty) {
+            members.push(("tag".to_string(), Ty::Int(8)));
+            for (variant, fields) in variants.iter().enumerate() {
+                for (number, field) in fields.iter().enumerate() {
+                    members.push((CTypes::of_variant(variant, number), self.program.shape(field, at)?));
+                }
+            }
+        } else {
+            for (number, field) in self.program.fields(ty, at)?.unwrap_or_default().iter().enumerate() {
+                members.push((format!("f{number}"), self.program.shape(field, at)?));
+            }
+        }
+        members.retain(|(_, field)| *field != Ty::Unit);
+        Ok(members)
+    }
+
+    /// The name in C of a variant's field.
+    pub fn of_variant(variant: usize, number: usize) -> String {
+        match number {
+            0 => format!("of{variant}"),
+            _ => format!("of{variant}_{number}"),
+        }
+    }
+
     /// `T name`, of a shape.
     pub fn declare(&mut self, ty: &Ty, name: &str, at: usize) -> Answer<String> {
         let c = self.of(ty, at)?;
         let gap = if c.ends_with('*') { "" } else { " " };
         Ok(format!("{c}{gap}{name}"))
+    }
+
+    /// Whether an enum with fields is used.
+    pub fn holds_variants(&self) -> bool {
+        self.used.iter().any(|ty| self.program.variants(ty).is_some())
     }
 
     /// The declarations of all that is used.
@@ -163,10 +204,8 @@ impl<'a> CTypes<'a> {
                 }
                 Ty::Named(name) if self.header_name(name).is_none() => {
                     write!(out, "/* {name} */\n{c} {{\n").expect("a string");
-                    let fields = self.program.fields(&ty, 0)?.unwrap_or_default().to_vec();
-                    for (number, field) in fields.iter().enumerate() {
-                        let field = self.program.shape(field, 0)?;
-                        writeln!(out, "    {};", self.declare(&field, &format!("f{number}"), 0)?).expect("a string");
+                    for (field, ty) in self.members(&ty, 0)? {
+                        writeln!(out, "    {};", self.declare(&ty, &field, 0)?).expect("a string");
                     }
                     out += "};\n\n";
                 }
@@ -195,11 +234,22 @@ KD_ASSERT(size_t, sizeof(size_t) <= sizeof(uint64_t));
             writeln!(out, "{shout}SIZE({c}, {size});").expect("a string");
             let Ty::Named(name) = &ty else { continue };
             let (offsets, ..) = self.program.offsets(name, 0)?.expect("it has a layout");
-            let fields = self.program.fields(&ty, 0)?.unwrap_or_default();
+            let (fields, in_variant) = match self.program.variants(&ty) {
+                Some(variants) => {
+                    let with = variants.iter().position(|fields| !fields.is_empty());
+                    (with.map_or(&[][..], |variant| &variants[variant][..]), with)
+                }
+                None => (self.program.fields(&ty, 0)?.unwrap_or_default(), None),
+            };
             for (number, (offset, field)) in offsets.iter().zip(fields).enumerate() {
                 let (size, _) = self.program.layout(field, 0)?.expect("it has a layout");
-                let name = self.field(name, number, 0)?.name;
-                writeln!(out, "{shout}FIELD({c}, {name}, {offset}, {size});").expect("a string");
+                let name = match in_variant {
+                    Some(variant) => CTypes::of_variant(variant, number),
+                    None => self.field(name, number, 0)?.name,
+                };
+                if size > 0 {
+                    writeln!(out, "{shout}FIELD({c}, {name}, {offset}, {size});").expect("a string");
+                }
             }
         }
         Ok(out)

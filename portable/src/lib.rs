@@ -9,6 +9,8 @@ pub mod head;
 pub mod header;
 pub mod mir;
 pub mod mutants;
+pub mod names;
+pub mod nested;
 pub mod shape;
 pub mod term;
 pub mod typing;

@@ -23,11 +23,27 @@ pub enum Ty {
     Named(Rc<str>),
 }
 
+impl Ty {
+    /// An address by itself; a declared type that holds one is not.
+    pub fn is_address(&self) -> bool {
+        matches!(self, Ty::Ptr | Ty::Ref(..) | Ty::Slice(..))
+    }
+}
+
 #[derive(Clone, Debug, PartialEq, Eq)]
 pub enum Step {
     Deref(Ty),
     Field(usize),
     Variant(usize),
+}
+
+impl Step {
+    pub fn deref(&self) -> Option<&Ty> {
+        match self {
+            Step::Deref(to) => Some(to),
+            _ => None,
+        }
+    }
 }
 
 #[derive(Clone, Debug, PartialEq, Eq)]
@@ -106,22 +122,26 @@ impl Value {
 
 pub type Body = Vec<Statement>;
 
-#[derive(Debug)]
+#[derive(Clone, Debug)]
 pub struct Statement {
     pub at: usize,
     pub does: Does,
 }
 
-#[derive(Debug)]
+#[derive(Clone, Debug)]
 pub enum Does {
     Assign(Place, Value),
     Call(Rc<str>, Vec<Operand>, Place),
+    /// As many values of a type as the third says, from the first address to the second: they may overlap where true.
+    CopyBits(bool, Ty, [Operand; 3]),
     If(Operand, Body, Body),
     Switch(Operand, Vec<(Vec<u64>, Body)>, Option<Body>),
     Block(Body),
     Loop(Body),
     Exit(usize),
     Return,
+    /// No call comes here: the machine would be stuck.
+    Never,
 }
 
 impl Statement {
@@ -139,6 +159,7 @@ impl Statement {
         match &self.does {
             Does::Assign(_, value) => value.operands(),
             Does::Call(_, arguments, _) => arguments.iter().collect(),
+            Does::CopyBits(_, _, arguments) => arguments.iter().collect(),
             Does::If(on, ..) | Does::Switch(on, ..) => vec![on],
             _ => Vec::new(),
         }
@@ -171,7 +192,7 @@ pub fn all(body: &Body) -> Vec<&Statement> {
     found
 }
 
-#[derive(Debug)]
+#[derive(Clone, Debug)]
 pub struct Function {
     pub name: Rc<str>,
     pub at: usize,
@@ -186,6 +207,18 @@ pub enum Declared {
     Struct(Vec<Ty>),
     /// How many variants, of which none has fields.
     Enum(usize),
+    /// Of each variant its fields.
+    Tagged(Vec<Vec<Ty>>),
+}
+
+impl Declared {
+    pub fn variants(&self) -> usize {
+        match self {
+            Declared::Struct(_) => 0,
+            Declared::Enum(count) => *count,
+            Declared::Tagged(variants) => variants.len(),
+        }
+    }
 }
 
 #[derive(Debug)]
@@ -244,28 +277,27 @@ impl Program {
         let declared = match what.headed()? {
             ("fields", [fields]) => {
                 let fields = types(fields)?;
-                if fields.iter().any(holds_address) {
-                    return unknown(what.at, format!("the struct {name} with an address in it"));
+                if fields.contains(&Ty::Ptr) {
+                    return unknown(what.at, format!("the struct {name} with a bare address in it"));
                 }
                 Declared::Struct(fields)
             }
             ("variants", [variants]) => {
-                let variants = variants.items("ttcons", "ttnil")?;
-                for variant in &variants {
-                    if !types(variant)?.is_empty() {
-                        return unknown(variant.at, format!("the enum {name} with fields"));
-                    }
-                }
+                let listed = variants.items("ttcons", "ttnil")?;
+                let variants: Vec<Vec<Ty>> = listed.into_iter().map(types).collect::<Answer<_>>()?;
                 if variants.is_empty() || variants.len() > 256 {
                     return unknown(what.at, format!("the enum {name} of {} variants", variants.len()));
                 }
-                Declared::Enum(variants.len())
+                if variants.iter().flatten().any(|field| *field == Ty::Ptr) {
+                    return unknown(what.at, format!("the enum {name} with a bare address in it"));
+                }
+                match variants.iter().all(Vec::is_empty) {
+                    true => Declared::Enum(variants.len()),
+                    false => Declared::Tagged(variants),
+                }
             }
             _ => return unknown(what.at, format!("the declaration {}", what.named())),
         };
-        if declared == Declared::Struct(Vec::new()) {
-            return unknown(what.at, format!("the struct {name} without fields"));
-        }
         match self.declared.get(&name) {
             Some(before) if *before != declared => unknown(declaration.at, format!("a second declaration of {name}")),
             _ => {
@@ -273,15 +305,6 @@ impl Program {
                 Ok(())
             }
         }
-    }
-}
-
-/// By itself; a declared type holds none, since no declaration that does is taken.
-fn holds_address(ty: &Ty) -> bool {
-    match ty {
-        Ty::Ptr | Ty::Ref(..) | Ty::Slice(..) => true,
-        Ty::Array(of, _) => holds_address(of),
-        _ => false,
     }
 }
 
@@ -328,7 +351,7 @@ fn type_of(term: &Term) -> Answer<Ty> {
             match length.number()? {
                 0 => unknown(length.at, "an array of no elements"),
                 number => match type_of(of)? {
-                    element if holds_address(&element) => unknown(term.at, "an array of addresses"),
+                    element if element.is_address() => unknown(term.at, "an array of addresses"),
                     element => Ok(Ty::Array(Rc::new(element), number)),
                 },
             }
@@ -435,6 +458,16 @@ fn body_of(term: &Term) -> Answer<Body> {
     Ok(body)
 }
 
+/// Whether a body comes to where no call comes, whatever it does before.
+fn is_dead(body: &Body) -> bool {
+    let straight =
+        |statement: &Statement| matches!(statement.does, Does::Assign(..) | Does::Call(..) | Does::CopyBits(..));
+    match body.split_last() {
+        Some((Statement { does: Does::Never, .. }, before)) => before.iter().all(straight),
+        _ => false,
+    }
+}
+
 fn read_body(term: &Term, body: &mut Body) -> Answer<()> {
     let does = match term.headed()? {
         ("skip", []) => return Ok(()),
@@ -443,23 +476,60 @@ fn read_body(term: &Term, body: &mut Body) -> Answer<()> {
             return read_body(b, body);
         }
         ("return", []) => Does::Return,
+        ("unreachable", []) => Does::Never,
         ("assign", [to, what]) => Does::Assign(place(to)?, value(what)?),
-        ("if", [on, a, b]) => Does::If(operand(on)?, body_of(a)?, body_of(b)?),
+        ("if", [on, a, b]) => {
+            let (on, a, b) = (operand(on)?, body_of(a)?, body_of(b)?);
+            match (is_dead(&a), is_dead(&b)) {
+                (true, true) => Does::Never,
+                (true, false) => return body_goes_on(body, b),
+                (false, true) => return body_goes_on(body, a),
+                (false, false) => Does::If(on, a, b),
+            }
+        }
         ("block", [inner]) => Does::Block(body_of(inner)?),
         ("loop", [inner]) => Does::Loop(body_of(inner)?),
         ("exit", [count]) => Does::Exit(count.count()?),
         ("switch", [on, arms]) => {
-            let (arms, default) = arms_of(arms)?;
-            Does::Switch(operand(on)?, arms, default)
+            let (on, (all, other)) = (operand(on)?, arms_of(arms)?);
+            let count = all.len();
+            let mut arms: Vec<_> = all.into_iter().filter(|(_, arm)| !is_dead(arm)).collect();
+            match (arms.len() < count, arms.len(), other.filter(|other| !is_dead(other))) {
+                (true, 0, None) => Does::Never,
+                (true, 0, Some(other)) => return body_goes_on(body, other),
+                // of one number alone, and no other comes here
+                (true, 1, None) => return body_goes_on(body, arms.remove(0).1),
+                (_, _, other) => Does::Switch(on, arms, other),
+            }
         }
-        ("call", [callee, arguments, to]) => {
-            let [function] = callee.parts("direct")?;
-            let [name] = function.parts("fnRef")?;
-            Does::Call(name.name()?.into(), operands(arguments)?, place(to)?)
-        }
+        ("call", [callee, arguments, to]) => match callee.headed()? {
+            ("copyBits", [how, ty]) => {
+                let within = match how.word()? {
+                    "apart" => false,
+                    "within" => true,
+                    other => return unknown(how.at, format!("a copy {other}")),
+                };
+                place(to)?;
+                match operands(arguments)?.try_into() {
+                    Ok(arguments) => Does::CopyBits(within, type_of(ty)?, arguments),
+                    Err(_) => return unknown(arguments.at, "a copy without two addresses and a count"),
+                }
+            }
+            _ => {
+                let [function] = callee.parts("direct")?;
+                let [name] = function.parts("fnRef")?;
+                Does::Call(name.name()?.into(), operands(arguments)?, place(to)?)
+            }
+        },
         _ => return unknown(term.at, format!("the statement {}", term.named())),
     };
     body.push(Statement { at: term.at, does });
+    Ok(())
+}
+
+/// The body of the one arm that is not dead stands in the place of the whole.
+fn body_goes_on(body: &mut Body, arm: Body) -> Answer<()> {
+    body.extend(arm);
     Ok(())
 }
 

@@ -40,6 +40,31 @@ fn greater(text: &str, from: usize, before: &str, after: &str) -> Vec<Change> {
     found
 }
 
+/// Whether a change leaves all as it is: 0 taken away and not added, or a label beside the default's.
+fn is_idle(text: &str, change: &Change) -> bool {
+    let rest = &text[change.to..];
+    let zero = ["UINT64_C(0);", "UINT32_C(0);", "(size_t)UINT64_C(0);"].iter().any(|zero| rest.starts_with(zero));
+    let by_zero = zero && [" + ", " - "].contains(&change.new.as_str());
+    let line = text[..change.from].rfind('\n').map_or(0, |at| at + 1);
+    let beside =
+        change.new == "case 101:" && text[..line].trim_end().ends_with("default: /* no other number is reached */");
+    by_zero || beside
+}
+
+/// The same of a program.
+fn is_idle_in_mir(text: &str, change: &Change) -> bool {
+    if !["(add ", "(sub ", "wrapAdd ", "wrapSub "].iter().any(|word| change.new.contains(word)) {
+        return false;
+    }
+    let mut depth = 0;
+    let ends = text[change.from..].bytes().position(|byte| {
+        depth += i32::from(byte == b'(') - i32::from(byte == b')');
+        depth == 0
+    });
+    let whole = ends.map_or("", |length| &text[change.from..=change.from + length]);
+    ["8", "16", "32", "64"].iter().any(|bits| whole.ends_with(&format!(" (int {bits} 0))")))
+}
+
 /// The changes of a C file, after its declarations.
 pub fn of_c(text: &str) -> Vec<Change> {
     let from = text.find("\nKD_STATIC ").unwrap_or(0);
@@ -87,6 +112,7 @@ pub fn of_c(text: &str) -> Vec<Change> {
         }
         at += line.len();
     }
+    found.retain(|change| !is_idle(text, change));
     found
 }
 
@@ -184,17 +210,19 @@ pub fn of_mir(text: &str) -> Vec<Change> {
     for bits in ["8", "16", "32", "64"] {
         found.extend(greater(text, 0, &format!("(int {bits} "), ")"));
     }
+    found.retain(|change| !is_idle_in_mir(text, change));
     found
 }
 
-/// What the translator does not know: the title, a text of the program, and what stands there instead.
-pub const REFUSED: &[(&str, &str, &str)] = &[
+/// What the translator does not know: the title, a text of the program, and what stands there instead. In these # is a number, and * a
+/// name, in the new text the same as in the old.
+const REFUSED: &[(&str, &str, &str)] = &[
     ("signed addition", "(add unsigned)", "(add signed)"),
     ("signed comparison", "(lt unsigned)", "(lt signed)"),
     ("a cast to signed", "(cast unsigned unsigned 64)", "(cast unsigned signed 64)"),
     ("a number of 128 bits", "(tyInt 16)", "(tyInt 128)"),
     ("a float", "(tyInt 16)", "(tyFloat 32)"),
-    ("an enum with fields", "(variants (ttcons tnil", "(variants (ttcons (tcons tyBool tnil)"),
+    ("a bare address in an enum", "(variants (ttcons tnil", "(variants (ttcons (tcons tyPtr tnil)"),
     ("an unknown statement", "(loop ", "(forever "),
     ("an unknown operation", "(op2 eq ", "(op2 ptrEq "),
     ("an unknown operation on one", "(op1 not ", "(op1 countOnes "),
@@ -205,25 +233,65 @@ pub const REFUSED: &[(&str, &str, &str)] = &[
     ("an unknown home", "memorySlot", "heapSlot"),
     ("an unknown lifetime", "(tyRef erased", "(tyRef static"),
     ("an unknown callee", "(direct (fnRef", "(indirect (fnRef"),
-    ("a number too wide", "(int 8 8)", "(int 8 256)"),
-    ("mixed widths", "(int 8 8)", "(int 16 8)"),
-    ("a field that is not there", "(field 4)", "(field 14)"),
+    ("a number too wide", "(int 8 #)", "(int 8 256)"),
+    ("mixed widths", "(int 8 #)", "(int 16 #)"),
+    ("a field that is not there", "(field #)", "(field 99)"),
     ("a variant that is not there", "(variant 0)", "(variant 99)"),
-    ("a tag that is not there", "(aggregate (lcons (int 8 12) lnil))", "(aggregate (lcons (int 8 99) lnil))"),
+    ("a tag that is not there", "(aggregate (lcons (int 8 #) lnil))", "(aggregate (lcons (int 8 255) lnil))"),
     ("an exit too far", "(exit 1)", "(exit 7)"),
-    ("a function that is not there", "(fnRef \"node::slots::pad\")", "(fnRef \"node::slots::pat\")"),
-    (
-        "a function that calls itself",
-        "(fnRef \"wire::delivered::put_record\")",
-        "(fnRef \"wire::delivered::write_record\")",
-    ),
-    ("a local that is not there", "(place 3 lnil)", "(place 99 lnil)"),
-    ("one key twice", "(arm (lcons 1 lnil)", "(arm (lcons 0 lnil)"),
+    ("a function that is not there", "(call (direct (fnRef \"*\"))", "(call (direct (fnRef \"none::*\"))"),
+    ("a local that is not there", "(place 3 lnil)", "(place 9999 lnil)"),
+    ("one key twice", "(arm (lcons # lnil)", "(arm (lcons # (lcons # lnil))"),
     ("an address used at another type", "(deref (tyInt 8))", "(deref (tyInt 16))"),
     ("a list without its end", " lnil)", " lnot)"),
     ("a parenthesis less", "))) return", ")) return"),
     ("a quotation mark less", "\"wire::", "wire::"),
-    ("a type that is not declared", "(tyNamed (pair \"wire::ids::Stream\"", "(tyNamed (pair \"wire::ids::Steam\""),
-    ("lifetimes of a struct", "(pair \"wire::ids::Stream\" lnil)", "(pair \"wire::ids::Stream\" (lcons erased lnil))"),
+    ("a type that is not declared", "(tyNamed (pair \"*\"", "(tyNamed (pair \"none::*\""),
+    ("lifetimes of a struct", "(tyNamed (pair \"*\" lnil)", "(tyNamed (pair \"*\" (lcons erased lnil))"),
     ("a second program", "program ", "program program "),
 ];
+
+/// What a text begins with, by a pattern: its length, and what # or * stood for.
+fn matched<'a>(text: &'a str, pattern: &str) -> Option<(usize, &'a str)> {
+    let mut at = 0;
+    let mut stood = "";
+    for sign in pattern.chars() {
+        let length = match sign {
+            '#' => text[at..].bytes().take_while(u8::is_ascii_digit).count(),
+            '*' => text[at..].find('"').unwrap_or(0),
+            _ if text[at..].starts_with(sign) => sign.len_utf8(),
+            _ => 0,
+        };
+        if length == 0 {
+            return None;
+        }
+        if "#*".contains(sign) {
+            stood = &text[at..at + length];
+        }
+        at += length;
+    }
+    Some((at, stood))
+}
+
+/// The first call of a function, in its place one of the function that it stands in.
+fn calls_itself(text: &str) -> Option<Change> {
+    let (word, title) = ("(call (direct (fnRef \"", "(fn-def \"");
+    let at = text.find(word)?;
+    let own = &text[text[..at].rfind(title)? + title.len()..];
+    let from = at + word.len();
+    Some(Change { from, to: from + text[from..].find('"')?, new: own[..own.find('"')?].to_string() })
+}
+
+/// The edits of a program that must be refused, each with its title; none where the program has no place for it.
+pub fn refused(text: &str) -> Vec<(&'static str, Option<Change>)> {
+    let edits = REFUSED.iter().map(|(title, old, new)| {
+        let begins = &old[..old.find(['#', '*']).unwrap_or(old.len())];
+        let found = text.match_indices(begins).find_map(|(at, _)| matched(&text[at..], old).map(|found| (at, found)));
+        let change = found.map(|(from, (length, stood))| {
+            let new = new.replace(['#', '*'], stood);
+            Change { from, to: from + length, new }
+        });
+        (*title, change)
+    });
+    edits.chain([("a function that calls itself", calls_itself(text))]).collect()
+}

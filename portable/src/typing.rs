@@ -1,6 +1,7 @@
 //! The types of places, and that an address is used only at the type of what it points to: C knows no other use.
 
 use std::collections::BTreeSet;
+use std::rc::Rc;
 
 use crate::mir::{all, Declared, Does, Function, Op, Operand, Place, Program, Statement, Step, Ty, Value};
 use crate::unknown::{unknown, Answer};
@@ -12,30 +13,34 @@ impl Program {
             return unknown(at, format!("the local {}", place.local));
         };
         let mut types = vec![ty.clone()];
-        let mut in_variant = false;
+        let mut in_variant: Option<usize> = None;
         for (place, step) in place.steps.iter().enumerate() {
-            let before = std::mem::take(&mut in_variant);
+            let before = in_variant.take();
             ty = match (step, &ty) {
                 (Step::Deref(to), _) if matches!(self.shape(&ty, at)?, Ty::Ptr | Ty::Ref(..)) => to.clone(),
+                (Step::Deref(to), Ty::Ref(..)) if self.shape(to, at)? == Ty::Unit => to.clone(),
                 (Step::Field(0), Ty::Slice(mutable, of)) => Ty::Ref(*mutable, of.clone()),
                 (Step::Field(1), Ty::Slice(..)) => Ty::Int(64),
-                (Step::Field(0), Ty::Named(name)) if before && self.is_enum(name) => Ty::Int(8),
-                (Step::Field(number), Ty::Named(name)) => match self.declared(name, at)? {
-                    Declared::Struct(fields) if *number < fields.len() => fields[*number].clone(),
+                (Step::Field(0), Ty::Named(_)) if before.is_some() => Ty::Int(8),
+                (Step::Field(number), Ty::Named(name)) => match (self.declared(name, at)?, before) {
+                    (Declared::Struct(fields), None) if *number < fields.len() => fields[*number].clone(),
+                    (Declared::Tagged(variants), Some(variant)) if *number <= variants[variant].len() => {
+                        variants[variant][*number - 1].clone()
+                    }
                     _ => return unknown(at, format!("field {number} of {name}")),
                 },
-                (Step::Variant(number), Ty::Named(name)) => match self.declared(name, at)? {
-                    Declared::Enum(count) if number < count && !before => {
-                        in_variant = true;
-                        ty.clone()
+                (Step::Variant(number), Ty::Named(name)) => {
+                    if before.is_some() || *number >= self.declared(name, at)?.variants() {
+                        return unknown(at, format!("variant {number} of {name}"));
                     }
-                    _ => return unknown(at, format!("variant {number} of {name}")),
-                },
+                    in_variant = Some(*number);
+                    ty.clone()
+                }
                 _ => return unknown(at, format!("step {place}, {step:?}, of {ty:?}")),
             };
             types.push(ty.clone());
         }
-        if in_variant {
+        if in_variant.is_some() {
             return unknown(at, "a variant as a value");
         }
         Ok(types)
@@ -60,9 +65,18 @@ struct Typing<'a> {
     targets: Vec<BTreeSet<Ty>>,
 }
 
-/// Whether a value of the type `whole` is one of the type `part`, or an array of such.
+/// What an array is of in the end, or the type itself.
+fn element(ty: &Ty) -> &Ty {
+    match ty {
+        Ty::Array(of, _) => element(of),
+        _ => ty,
+    }
+}
+
+/// Whether an address of the type `whole` may be used as one of the type `part`: both are of one type, or of arrays of it. C reads and
+/// writes an array behind an address by its elements, so as many of them may be taken for an array as the program does.
 fn holds(whole: &Ty, part: &Ty) -> bool {
-    whole == part || matches!(whole, Ty::Array(of, _) if holds(of, part))
+    element(whole) == element(part)
 }
 
 impl<'a> Typing<'a> {
@@ -108,6 +122,11 @@ impl<'a> Typing<'a> {
             Value::Use(Operand::Copy(place)) | Value::Two(Op::Offset, Operand::Copy(place), _) => {
                 self.pointed_from(place, at)
             }
+            // the one field of a struct
+            Value::Aggregate(parts) => match &parts[..] {
+                [Operand::Copy(place)] => self.pointed_from(place, at),
+                _ => unknown(at, format!("the address {value:?}")),
+            },
             other => unknown(at, format!("the address {other:?}")),
         }
     }
@@ -117,20 +136,82 @@ impl<'a> Typing<'a> {
         let read = statement.operands().into_iter().filter_map(Operand::place);
         for place in read.chain(statement.target()).chain(statement.address_of()) {
             for (number, step) in place.steps.iter().enumerate() {
-                if let Step::Deref(to) = step {
+                // nothing is read where nothing is held
+                if let Some(to) = step.deref().filter(|to| self.program.shape(to, at) != Ok(Ty::Unit)) {
                     let address = Place { local: place.local, steps: place.steps[..number].to_vec() };
                     self.all_hold(&self.pointed_from(&address, at)?, to, at)?;
                 }
             }
         }
-        let Does::Assign(to, value) = &statement.does else { return Ok(()) };
+        match &statement.does {
+            Does::Assign(to, value) => self.assigned(to, value, at),
+            Does::Call(name, arguments, to) => {
+                let Some(callee) = self.program.functions.get(name) else { return Ok(()) };
+                for (argument, ty) in arguments.iter().zip(&callee.locals[1..]) {
+                    self.fits(ty, argument, at)?;
+                }
+                match (self.type_at(to, at)?, self.program.shape(&callee.locals[0], at)?) {
+                    (Ty::Ref(_, part), Ty::Ref(_, whole)) => {
+                        self.all_hold(&BTreeSet::from([(*whole).clone()]), &part, at)
+                    }
+                    _ => Ok(()),
+                }
+            }
+            Does::CopyBits(_, ty, [from, to, _]) => {
+                self.counted(&self.program.shape(ty, at)?, at)?;
+                let address = Ty::Ref(false, Rc::new(ty.clone()));
+                self.fits(&address, from, at)?;
+                self.fits(&address, to, at)
+            }
+            _ => Ok(()),
+        }
+    }
+
+    /// That what is put where an address to this is due is one.
+    fn fits(&self, ty: &Ty, operand: &Operand, at: usize) -> Answer<()> {
+        match (self.program.shape(ty, at)?, operand) {
+            (Ty::Ref(_, part), Operand::Copy(place)) => self.all_hold(&self.pointed_from(place, at)?, &part, at),
+            (Ty::Ref(..), other) => unknown(at, format!("{other:?} where an address is due")),
+            _ => Ok(()),
+        }
+    }
+
+    fn assigned(&self, to: &Place, value: &Value, at: usize) -> Answer<()> {
+        if let Value::Two(Op::Offset, Operand::Copy(from), by) = value {
+            if *by != Operand::Int(64, 0) {
+                self.pointed_from(from, at)?.iter().try_for_each(|target| self.counted(target, at))?;
+            }
+        }
         match (self.type_at(to, at)?, value) {
             (Ty::Ref(_, part), value) => self.all_hold(&self.pointed_by(value, at)?, &part, at),
             (Ty::Slice(_, part), Value::Aggregate(parts)) => match &parts[..] {
                 [Operand::Copy(address), _] => self.all_hold(&self.pointed_from(address, at)?, &part, at),
+                // the one field of a struct
+                [Operand::Copy(_)] => Ok(()),
                 _ => unknown(at, "a slice of other parts than an address and a count"),
             },
+            (ty @ Ty::Named(_), Value::Aggregate(parts)) => {
+                let fields = match (self.program.variants(&ty), parts.first()) {
+                    (Some(variants), Some(Operand::Int(8, tag))) => {
+                        variants.get(*tag as usize).map(|fields| &fields[..])
+                    }
+                    _ => self.program.fields(&ty, at)?,
+                };
+                let skipped = usize::from(self.program.variants(&ty).is_some());
+                let mut pairs = fields.unwrap_or_default().iter().zip(parts.iter().skip(skipped));
+                pairs.try_for_each(|(field, part)| self.fits(field, part, at))
+            }
             _ => Ok(()),
+        }
+    }
+
+    /// An offset counts the machine's bytes, so what lies there must be laid out in C as in the machine.
+    fn counted(&self, target: &Ty, at: usize) -> Answer<()> {
+        match target {
+            Ty::Array(of, _) => self.counted(of, at),
+            Ty::Int(64) => Ok(()),
+            _ if self.program.layout(target, at)?.is_some() => Ok(()),
+            _ => unknown(at, format!("an offset among values whose layout is not the same everywhere: {target:?}")),
         }
     }
 

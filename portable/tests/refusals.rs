@@ -77,6 +77,7 @@ fn statements() {
     refused("(seq panic return)", "the statement panic");
     refused("(seq (loop skip skip) return)", "the statement (loop ..) with 2 parts");
     refused("(seq (block (exit 1)) return)", "exit 1 within 1 statements");
+    refused("(seq return (exit 0))", "exit 0 within 0 statements");
     refused("skip", "a function that ends without a return");
     refused("(if (copy (place 3 lnil)) return skip)", "a function that ends without a return");
     refused("(seq (call (direct (fnRef \"far\")) lnil (place 0 lnil)) return)", "the function far, which is not there");
@@ -173,10 +174,17 @@ fn the_text_around() {
         said(&text)
     };
     assert!(declared("(fields (tcons tyBool tnil))").is_ok());
-    let with_fields = declared("(variants (ttcons (tcons tyBool tnil) ttnil))").expect_err("an enum with fields");
-    assert!(with_fields.contains("the enum a::B with fields"), "{with_fields}");
-    let with_address = declared("(fields (tcons tyPtr tnil))").expect_err("an address in a struct");
-    assert!(with_address.contains("the struct a::B with an address in it"), "{with_address}");
+    assert!(declared("(variants (ttcons (tcons tyBool tnil) ttnil))").is_ok());
+    assert!(declared("(fields (tcons (tyRef erased imm tyBool) tnil))").is_ok());
+    for (what, title) in [
+        ("(fields (tcons tyPtr tnil))", "the struct a::B with a bare address in it"),
+        ("(variants (ttcons (tcons tyPtr tnil) ttnil))", "the enum a::B with a bare address in it"),
+        ("(fields (tcons (tyFloat 32) tnil))", "the type (tyFloat ..)"),
+        ("(variants ttnil)", "the enum a::B of 0 variants"),
+    ] {
+        let said = declared(what).expect_err(title);
+        assert!(said.contains(title), "{said} says nothing of {title}");
+    }
     assert!(declared("(opaque)").expect_err("an unknown declaration").contains("the declaration (opaque ..)"));
 }
 

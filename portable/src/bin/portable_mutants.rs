@@ -8,11 +8,13 @@ use std::collections::{BTreeMap, BTreeSet};
 use std::fs;
 use std::path::{Path, PathBuf};
 use std::process::{Command, ExitCode, Stdio};
-use std::thread::sleep;
+use std::sync::atomic::{AtomicUsize, Ordering};
+use std::sync::{Mutex, OnceLock};
+use std::thread::{self, sleep};
 use std::time::{Duration, Instant};
 
 use portable::exports::KOSMYDORE;
-use portable::mutants::{gathered, of_c, of_mir, Change, REFUSED};
+use portable::mutants::{gathered, of_c, of_mir, refused, Change};
 use portable::{c_file, header, mir};
 
 /// A mutant that does not end is found after so long, for each thousand of calls; they take some hundredths of this.
@@ -46,16 +48,16 @@ impl Trial {
         self.work.join(name).display().to_string()
     }
 
-    /// A comparison over this C file, and one under the sanitizers; none where it can't be compiled.
-    fn compiled(&self, c: &str) -> Option<Mutant> {
-        fs::write(self.path("mutant.c"), c).ok()?;
-        let program = self.program("mutant", "gcc", "zero", &[])?;
-        Some(Mutant { program, number: 0, sanitized: None })
+    /// A comparison over this C file, in files of this name, and one under the sanitizers; none where it can't be compiled.
+    fn compiled(&self, c: &str, name: &str) -> Option<Mutant> {
+        fs::write(self.path(&format!("{name}.c")), c).ok()?;
+        let program = self.program(name, name, "gcc", "zero", &[])?;
+        Some(Mutant { name: name.to_string(), program, sanitized: OnceLock::new() })
     }
 
     /// A local that is not written holds what is chosen here, so that it is not right by chance.
-    fn program(&self, name: &str, compiler: &str, unwritten: &str, words: &[&str]) -> Option<String> {
-        let (source, program) = (self.path("mutant.c"), self.path(name));
+    fn program(&self, of: &str, name: &str, compiler: &str, unwritten: &str, words: &[&str]) -> Option<String> {
+        let (source, program) = (self.path(&format!("{of}.c")), self.path(name));
         let mut compiler = Command::new(compiler);
         // Without optimization: a compiler may take a store that is left out for one of any value, the right one too.
         compiler.args(["-std=c99", "-w", "-O0", "-o", &program, &source]).args(words);
@@ -67,27 +69,25 @@ impl Trial {
     }
 
     /// By clang where it is there: gcc fills a bool with zeros always.
-    fn sanitized(&self) -> Option<String> {
+    fn sanitized(&self, of: &str) -> Option<String> {
         let words = ["-fsanitize=address,undefined", "-fno-sanitize-recover=all"];
-        let by = |compiler| self.program("sanitized", compiler, "pattern", &words);
+        let by = |compiler| self.program(of, &format!("{of}-sanitized"), compiler, "pattern", &words);
         by("clang").or_else(|| by("gcc"))
     }
 
     /// Whether the comparison differs, or the sanitizers stop it. Of one that is listed only the first calls are made, but in
     /// a run of all.
-    fn found(&self, mutant: &mut Mutant, listed: bool) -> Option<bool> {
-        if self.differs(&mutant.program, mutant.number, self.calls)? {
+    fn found(&self, mutant: &Mutant, number: usize, listed: bool) -> Option<bool> {
+        if self.differs(&mutant.program, number, self.calls)? {
             return Some(true);
         }
         if listed && !self.all {
             return Some(false);
         }
-        if mutant.sanitized.is_none() {
-            mutant.sanitized = self.sanitized();
-        }
+        let sanitized = mutant.sanitized.get_or_init(|| self.sanitized(&mutant.name));
         Some(
-            self.differs(mutant.sanitized.as_ref()?, mutant.number, self.calls)?
-                || self.differs(&mutant.program, mutant.number, self.calls * AGAIN)?,
+            self.differs(sanitized.as_ref()?, number, self.calls)?
+                || self.differs(&mutant.program, number, self.calls * AGAIN)?,
         )
     }
 
@@ -111,10 +111,32 @@ impl Trial {
 
 /// A program that compares a changed C file with the library. In one that has several changes the number chooses.
 struct Mutant {
+    name: String,
     program: String,
-    number: usize,
     /// The same under the sanitizers, made when it is asked for.
-    sanitized: Option<String>,
+    sanitized: OnceLock<Option<String>>,
+}
+
+/// What a function answers for each of these, in their order, as many at a time as there are processors; the worker's number is told.
+fn each<T: Sync, A: Send>(items: &[T], answer: impl Fn(&T, usize) -> A + Sync) -> Vec<A> {
+    let (next, done) = (AtomicUsize::new(0), Mutex::new(Vec::new()));
+    let workers = thread::available_parallelism().map_or(1, |count| count.get());
+    thread::scope(|scope| {
+        for worker in 0..workers {
+            let (next, done, answer) = (&next, &done, &answer);
+            scope.spawn(move || {
+                while let Some((at, item)) =
+                    Some(next.fetch_add(1, Ordering::Relaxed)).and_then(|at| Some((at, items.get(at)?)))
+                {
+                    let one = answer(item, worker);
+                    done.lock().expect("no worker panics").push((at, one));
+                }
+            });
+        }
+    });
+    let mut done = done.into_inner().expect("no worker panics");
+    done.sort_by_key(|(at, _)| *at);
+    done.into_iter().map(|(_, one)| one).collect()
 }
 
 /// The changes that no call can show, each with its reason; what came of those that were tried.
@@ -127,8 +149,17 @@ struct Unseen {
     others: BTreeSet<String>,
 }
 
-/// Stands in the place of a reason, and is none.
+/// What begins so stands in the place of a reason, and is none.
 const NO_REASON: &str = "No reason yet.";
+
+/// The change alone, without the function's name.
+fn unplaced(name: &str) -> &str {
+    name.split_once(" | ").map_or(name, |(_, change)| change)
+}
+
+fn function_of(name: &str) -> &str {
+    name.split_once(" | ").map_or(name, |(function, _)| function)
+}
 
 impl Unseen {
     fn read(text: &str) -> Unseen {
@@ -143,11 +174,33 @@ impl Unseen {
     }
 
     fn lists(&self, name: &str) -> bool {
-        self.reasons.iter().any(|(reason, changes)| reason != NO_REASON && changes.iter().any(|change| change == name))
+        self.listed().any(|change| change == name)
+    }
+
+    /// Each listed change with its reason.
+    fn with_reasons(&self) -> impl Iterator<Item = (&String, &String)> {
+        let real = self.reasons.iter().filter(|(reason, _)| !reason.starts_with(NO_REASON));
+        real.flat_map(|(reason, changes)| changes.iter().map(move |change| (reason, change)))
     }
 
     fn listed(&self) -> impl Iterator<Item = &String> {
-        self.reasons.iter().filter(|(reason, _)| reason != NO_REASON).flat_map(|(_, changes)| changes)
+        self.with_reasons().map(|(_, change)| change)
+    }
+
+    /// The one reason that changes have for which this holds.
+    fn one_reason(&self, holds: impl Fn(&String) -> bool) -> Option<&String> {
+        let reasons: BTreeSet<&String> =
+            self.with_reasons().filter(|(_, change)| holds(change)).map(|(reason, _)| reason).collect();
+        match Vec::from_iter(reasons)[..] {
+            [reason] => Some(reason),
+            _ => None,
+        }
+    }
+
+    /// The reason of a change that is not listed, where the same change of another function was listed under one reason and is no
+    /// longer there: it has moved.
+    fn moved(&self, name: &str, there: &BTreeSet<String>) -> Option<&String> {
+        self.one_reason(|change| unplaced(change) == unplaced(name) && !there.contains(change))
     }
 
     /// The listed changes that the program or the C file no longer has, and, where all were tried, those that are found.
@@ -161,17 +214,29 @@ impl Unseen {
     /// The list as it would be now.
     fn renewed(&self, there: &BTreeSet<String>) -> String {
         let stale: BTreeSet<&String> = self.stale(there, true).into_iter().map(|(_, name)| name).collect();
+        let (mut moved, mut new) = (Vec::new(), BTreeMap::<String, Vec<&String>>::new());
+        for name in &self.others {
+            match self.moved(name, there) {
+                Some(reason) => moved.push((reason, name)),
+                None => {
+                    let near = self.one_reason(|change| function_of(change) == function_of(name));
+                    let near = near.map_or(String::new(), |reason| format!(" Others of this function: {reason}"));
+                    new.entry(format!("{NO_REASON}{near}")).or_default().push(name);
+                }
+            }
+        }
         let mut out = String::new();
-        for (reason, changes) in self.reasons.iter().filter(|(reason, _)| reason != NO_REASON) {
+        for (reason, changes) in self.reasons.iter().filter(|(reason, _)| !reason.starts_with(NO_REASON)) {
             let mut kept: Vec<&String> = changes.iter().filter(|name| !stale.contains(name)).collect();
+            kept.extend(moved.iter().filter(|(to, _)| *to == reason).map(|(_, name)| name));
             kept.sort();
             kept.dedup();
             if !kept.is_empty() || changes.is_empty() {
                 out += &section(reason, kept);
             }
         }
-        if !self.others.is_empty() {
-            out += &section(NO_REASON, self.others.iter().collect());
+        for (title, changes) in new {
+            out += &section(&title, changes);
         }
         out.trim_end().to_string() + "\n"
     }
@@ -307,35 +372,39 @@ fn try_all(trial: &Trial, c: &str, tried: Vec<Tried>, unseen: &mut Unseen) -> Re
     }
     let (names, changes): (Vec<_>, Vec<_>) = together.into_iter().unzip();
     let (text, others) = gathered(c, &changes);
-    let Some(mut mutant) = trial.compiled(&text) else {
+    let Some(mutant) = trial.compiled(&text, "mutant") else {
         return Err("the C file with all changes in it can't be compiled".to_string());
     };
-    for (number, name) in names.iter().enumerate().filter(|(number, _)| !others.contains(number)) {
-        mutant.number = number + 1;
-        score.count(trial.found(&mut mutant, unseen.lists(name)), name, unseen);
-    }
+    let numbers: Vec<usize> = (0..names.len()).filter(|number| !others.contains(number)).collect();
+    let found = each(&numbers, |number, _| trial.found(&mutant, number + 1, unseen.lists(&names[*number])));
+    numbers.iter().zip(found).for_each(|(number, found)| score.count(found, &names[*number], unseen));
     alone.extend(others.iter().map(|number| (names[*number].clone(), changes[*number].applied(c))));
-    for (name, text) in alone {
-        let mutant = trial.compiled(&text);
-        let found = mutant.and_then(|mut mutant| trial.found(&mut mutant, unseen.lists(&name)));
-        score.count(found, &name, unseen);
-    }
+    let found = each(&alone, |(name, text), worker| {
+        let mutant = trial.compiled(text, &format!("mutant-{worker}"))?;
+        trial.found(&mutant, 0, unseen.lists(name))
+    });
+    alone.iter().zip(found).for_each(|((name, _), found)| score.count(found, name, unseen));
     Ok(score)
 }
 
 /// Whether every edit that the translator must refuse is refused.
 fn all_refused(trial: &Trial, text: &str) -> bool {
     let mut all = true;
-    for (title, old, new) in REFUSED {
-        if !text.contains(old) {
-            all = false;
-            println!("not there to be changed: {title}");
-        } else if trial.translated(&text.replacen(old, new, 1)).is_ok() {
-            all = false;
-            println!("not refused: {title}");
+    let edits = refused(text);
+    for (title, change) in &edits {
+        match change {
+            None => {
+                all = false;
+                println!("not there to be changed: {title}");
+            }
+            Some(change) if trial.translated(&change.applied(text)).is_ok() => {
+                all = false;
+                println!("not refused: {title}");
+            }
+            Some(_) => {}
         }
     }
-    println!("{} edits that the translator must refuse", REFUSED.len());
+    println!("{} edits that the translator must refuse", edits.len());
     all
 }
 
@@ -358,11 +427,11 @@ fn run(words: &[String]) -> Result<bool, String> {
     let all_refused = all_refused(&trial, &text);
 
     let c = trial.translated(&text)?;
-    if trial.compiled(&c).is_none() {
+    if trial.compiled(&c, "mutant").is_none() {
         println!("gcc is too old to fill locals that are not written: a store that is left out may be right by chance");
         trial.fills = false;
     }
-    let unchanged = trial.compiled(&c).and_then(|mut mutant| trial.found(&mut mutant, false));
+    let unchanged = trial.compiled(&c, "mutant").and_then(|mutant| trial.found(&mutant, 0, false));
     if unchanged != Some(false) {
         return Err("the unchanged program differs from the library, or can't be compiled".to_string());
     }
@@ -420,5 +489,28 @@ fn main() -> ExitCode {
             eprintln!("portable_mutants: {what}");
             ExitCode::from(2)
         }
+    }
+}
+
+#[cfg(test)]
+mod tests {
+    use super::*;
+
+    fn names(names: &[&str]) -> BTreeSet<String> {
+        names.iter().map(|name| name.to_string()).collect()
+    }
+
+    #[test]
+    fn a_change_that_moved_keeps_its_reason() {
+        let list = "One.\n    a::f | x | y\n    a::g | x | z\n\nTwo.\n    b::g | p | q\n\nThree.\n    d::f | x | y\n";
+        let mut unseen = Unseen::read(list);
+        unseen.others = names(&["c::f | x | y", "b::g | r | s", "e::h | x | z"]);
+        unseen.tried = BTreeMap::from([("b::g | p | q".to_string(), true), ("d::f | x | y".to_string(), true)]);
+        let there =
+            names(&["c::f | x | y", "b::g | r | s", "b::g | p | q", "d::f | x | y", "a::g | x | z", "e::h | x | z"]);
+        let renewed = "One.\n    a::g | x | z\n    c::f | x | y\n\nTwo.\n    b::g | p | q\n\nThree.\n    d::f | x | y\n\n\
+                       No reason yet.\n    e::h | x | z\n\nNo reason yet. Others of this function: Two.\n    b::g | r | s\n";
+        assert_eq!(unseen.renewed(&there), renewed);
+        assert!(!Unseen::read(renewed).lists("e::h | x | z") && !Unseen::read(renewed).lists("b::g | r | s"));
     }
 }

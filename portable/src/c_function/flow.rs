@@ -4,7 +4,7 @@ use std::collections::BTreeSet;
 
 use super::CFunction;
 use crate::mir::{Body, Does, Operand, Statement, Ty};
-use crate::unknown::Answer;
+use crate::unknown::{unknown, Answer};
 
 /// An enclosing statement that an exit can leave, or that C's `break` or `continue` stop at.
 #[derive(Clone, Copy, PartialEq, Eq, Debug)]
@@ -19,7 +19,7 @@ pub(super) enum Around {
 }
 
 /// Whether an exit in this body leaves so many statements around it.
-fn leaves(body: &Body, depth: usize) -> bool {
+pub fn leaves(body: &Body, depth: usize) -> bool {
     body.iter().any(|statement| match &statement.does {
         Does::Exit(count) => *count == depth,
         Does::Block(inner) | Does::Loop(inner) => leaves(inner, depth + 1),
@@ -27,13 +27,38 @@ fn leaves(body: &Body, depth: usize) -> bool {
     })
 }
 
+/// That no exit in this body leaves more than the statements around it, not even one that is not reached.
+pub(super) fn exits_are_within(body: &Body, around: usize) -> Answer<()> {
+    for statement in body {
+        let within = match &statement.does {
+            Does::Exit(count) if *count >= around => {
+                return unknown(statement.at, format!("exit {count} within {around} statements"));
+            }
+            Does::Block(_) | Does::Loop(_) => around + 1,
+            _ => around,
+        };
+        statement.inner().into_iter().try_for_each(|inner| exits_are_within(inner, within))?;
+    }
+    Ok(())
+}
+
 /// Whether what follows the body can be reached from it.
 pub fn goes_on(body: &Body) -> bool {
-    match body.last().map(|statement| (statement, &statement.does)) {
-        None | Some((_, Does::Assign(..) | Does::Call(..))) => true,
-        Some((_, Does::Exit(_) | Does::Return | Does::Loop(_))) => false,
-        Some((_, Does::Block(inner))) => goes_on(inner) || leaves(inner, 0),
-        Some((statement, Does::If(..) | Does::Switch(..))) => statement.inner().into_iter().any(goes_on),
+    body.last().is_none_or(|statement| statement.does.goes_on())
+}
+
+impl Does {
+    /// Whether what follows it can be reached from it.
+    pub fn goes_on(&self) -> bool {
+        match self {
+            Does::Assign(..) | Does::Call(..) | Does::CopyBits(..) => true,
+            Does::Exit(_) | Does::Return | Does::Never | Does::Loop(_) => false,
+            Does::Block(inner) => goes_on(inner) || leaves(inner, 0),
+            Does::If(_, a, b) => goes_on(a) || goes_on(b),
+            Does::Switch(_, arms, default) => {
+                arms.iter().any(|(_, arm)| goes_on(arm)) || default.as_ref().is_some_and(goes_on)
+            }
+        }
     }
 }
 
@@ -42,6 +67,10 @@ impl CFunction<'_, '_> {
         for statement in body {
             self.at = statement.at;
             self.statement(statement, around)?;
+            // what stands after it is not reached
+            if !statement.does.goes_on() {
+                break;
+            }
         }
         Ok(())
     }
@@ -57,11 +86,16 @@ impl CFunction<'_, '_> {
         match &statement.does {
             Does::Assign(to, value) => self.assign(to, value),
             Does::Call(name, arguments, to) => self.call(name, arguments, to),
+            Does::CopyBits(within, ty, arguments) => self.copy_bits(*within, ty, arguments),
             Does::If(on, a, b) => self.branch(on, a, b, around),
             Does::Switch(on, arms, default) => self.switch(on, arms, default.as_ref(), around),
             Does::Block(body) => self.block(body, around),
             Does::Loop(body) => self.turns(body, around, None),
             Does::Exit(count) => self.exit(*count, around),
+            Does::Never => {
+                self.say("for (;;) { /* no call comes here */ }");
+                Ok(())
+            }
             Does::Return => {
                 if self.shape(&self.function.locals[0])? == Ty::Unit {
                     self.say("return;");
@@ -112,14 +146,55 @@ impl CFunction<'_, '_> {
         if arms.is_empty() {
             return self.unknown("a switch without arms");
         }
-        self.say(format!("switch ({}) {{", on.whole()));
         let mut seen = BTreeSet::new();
-        for (number, (keys, body)) in arms.iter().enumerate() {
-            for key in keys {
-                if !seen.insert(key) || bits < 64 && key >> bits != 0 {
-                    return self.unknown(format!("the key {key} of a switch on {bits} bits"));
-                }
+        for key in arms.iter().flat_map(|(keys, _)| keys) {
+            if !seen.insert(key) || bits < 64 && key >> bits != 0 {
+                return self.unknown(format!("the key {key} of a switch on {bits} bits"));
             }
+        }
+        // An arm that leaves a loop has no word for it in a switch, which C's `break` would leave.
+        let before = self.written();
+        self.as_switch(&on.whole(), arms, default, around)?;
+        let as_switch = self.written();
+        if as_switch.gotos() > before.gotos() {
+            self.back_to(before);
+            self.as_ifs(&on.whole(), arms, default, around)?;
+            if self.written().gotos() >= as_switch.gotos() {
+                self.back_to(as_switch);
+            }
+        }
+        Ok(())
+    }
+
+    fn as_ifs(&mut self, on: &str, arms: &[(Vec<u64>, Body)], default: Option<&Body>, around: &[Around]) -> Answer<()> {
+        let mut begins = "if";
+        for (number, (keys, body)) in arms.iter().enumerate() {
+            let tests: Vec<String> = keys.iter().map(|key| format!("{on} == {key}u")).collect();
+            match (tests.is_empty(), default.is_none() && number + 1 == arms.len()) {
+                (true, _) => return self.unknown("an arm without keys"),
+                (_, true) if number > 0 => self.say("} else { /* no other number is reached */"),
+                _ => self.say(format!("{begins} ({}) {{", tests.join(" || "))),
+            }
+            self.inner(body, around, &[])?;
+            begins = "} else if";
+        }
+        if let Some(body) = default.filter(|body| !body.is_empty()) {
+            self.say("} else {");
+            self.inner(body, around, &[])?;
+        }
+        self.say("}");
+        Ok(())
+    }
+
+    fn as_switch(
+        &mut self,
+        on: &str,
+        arms: &[(Vec<u64>, Body)],
+        default: Option<&Body>,
+        around: &[Around],
+    ) -> Answer<()> {
+        self.say(format!("switch ({on}) {{"));
+        for (number, (keys, body)) in arms.iter().enumerate() {
             let labels: Vec<String> = keys.iter().map(|key| format!("case {key}:")).collect();
             // Without a default the machine is stuck at any other number, so none is reached.
             let other = default.is_none() && number + 1 == arms.len();

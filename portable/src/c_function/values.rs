@@ -81,18 +81,29 @@ impl CFunction<'_, '_> {
         let types = self.types.program.types_along(self.function, place, self.at)?;
         self.used.insert(place.local);
         let mut spot = Spot::new(self.root(place.local), self.shape(&types[0])?);
+        let mut variant = None;
         for (step, (before, after)) in place.steps.iter().zip(types.iter().zip(&types[1..])) {
             let ty = self.shape(after)?;
+            let in_variant = variant.take();
             spot = match (step, before) {
+                _ if ty == Ty::Unit => Spot::new("", ty),
                 (Step::Deref(_), _) => self.deref(&spot, ty)?,
                 (Step::Field(0), Ty::Slice(..)) => Spot::new(spot.dot("at"), ty),
                 (Step::Field(_), Ty::Slice(..)) => Spot { form: Form::Size, ..Spot::new(spot.dot("length"), ty) },
                 (Step::Field(_), Ty::Named(name)) if self.types.program.is_enum(name) => Spot { ty, ..spot },
+                (Step::Field(0), Ty::Named(_)) if in_variant.is_some() => Spot::new(spot.dot("tag"), ty),
+                (Step::Field(number), Ty::Named(_)) if in_variant.is_some() => {
+                    let member = CTypes::of_variant(in_variant.unwrap_or_default(), number - 1);
+                    Spot::new(spot.dot(&member), ty)
+                }
                 (Step::Field(number), Ty::Named(name)) => match self.types.program.fields(before, self.at)? {
                     Some(_) => self.field(&spot, name, *number, ty)?,
                     None => Spot { ty, ..spot },
                 },
-                (Step::Variant(_), _) => spot,
+                (Step::Variant(number), _) => {
+                    variant = Some(*number);
+                    spot
+                }
                 _ => return self.unknown(format!("{step:?} of {before:?}")),
             };
         }
@@ -110,7 +121,9 @@ impl CFunction<'_, '_> {
     }
 
     fn deref(&mut self, address: &Spot, ty: Ty) -> Answer<Spot> {
-        if self.types.program.layout(&ty, self.at)?.is_none() && ty != Ty::Int(64) {
+        // What is named is read and written whole, or by the names of its fields, wherever they lie in C.
+        let named = matches!(ty, Ty::Int(64) | Ty::Named(_) | Ty::Slice(..) | Ty::Ref(..));
+        if self.types.program.layout(&ty, self.at)?.is_none() && !named {
             return self.unknown(format!("a value behind an address whose layout is not the same everywhere: {ty:?}"));
         }
         let (element, form) = match &ty {
@@ -120,7 +133,11 @@ impl CFunction<'_, '_> {
         let c = self.types.of(&element, self.at)?;
         self.types.rely_on(&ty);
         let address = address.whole();
-        let address = if c == "uint8_t" { address } else { format!("({c} *)(void *){address}") };
+        let gap = if c.ends_with('*') { "" } else { " " };
+        let address = match c.as_str() {
+            "uint8_t" => address,
+            _ => format!("({c}{gap}*)(void *){address}"),
+        };
         Ok(match form {
             Form::Elements => Spot { text: Text::Of(address), ty, form },
             _ => Spot { text: Text::Through(address), ty, form },
@@ -129,11 +146,26 @@ impl CFunction<'_, '_> {
 
     /// A byte pointer to a place.
     fn address(&mut self, place: &Place) -> Answer<String> {
-        if let [before @ .., Step::Deref(to)] = &place.steps[..] {
+        let types = self.types.program.types_along(self.function, place, self.at)?;
+        let mut steps = &place.steps[..];
+        // the one field of a struct lies where the struct does
+        while let [before @ .., Step::Field(0)] = steps {
+            let one = matches!(&types[before.len()], Ty::Named(name) if matches!(
+                self.types.program.declared(name, self.at)?, Declared::Struct(fields) if fields.len() == 1));
+            if !one {
+                break;
+            }
+            steps = before;
+        }
+        if let [before @ .., Step::Deref(to)] = steps {
             self.shape(to)?;
             return Ok(self.spot(&Place { local: place.local, steps: before.to_vec() })?.whole());
         }
-        Ok(match self.spot(place)?.text {
+        let spot = self.spot(place)?;
+        if spot.form == Form::Size {
+            return self.unknown("the address of a size_t");
+        }
+        Ok(match spot.text {
             Text::Of(text) => format!("(uint8_t *)&{text}"),
             Text::Through(address) => format!("(uint8_t *){address}"),
         })
@@ -151,7 +183,7 @@ impl CFunction<'_, '_> {
             Operand::Int(bits @ (8 | 16), number) => Spot::new(format!("{number}u"), Ty::Int(*bits)),
             Operand::Int(bits, number) => Spot::new(format!("UINT{bits}_C({number})"), Ty::Int(*bits)),
             Operand::Bool(is) => Spot::new(is.to_string(), Ty::Bool),
-            Operand::Unit => return self.unknown("the unit as an operand"),
+            Operand::Unit => Spot::new("", Ty::Unit),
         })
     }
 
@@ -171,6 +203,7 @@ impl CFunction<'_, '_> {
     fn store(&mut self, to: &Spot, value: &Spot) -> Answer<()> {
         self.same(&to.ty, &value.ty)?;
         let line = match (&to.ty, to.form, value.form) {
+            (Ty::Unit, ..) => return Ok(()),
             (Ty::Array(..), to_form, from_form) if to_form == Form::Elements || from_form == Form::Elements => {
                 let c = self.types.of(&to.ty, self.at)?;
                 format!("memcpy({}, {}, sizeof({c}));", to.elements(), value.elements())
@@ -189,7 +222,7 @@ impl CFunction<'_, '_> {
     /// The place that a value is stored into, declared first where it is born here.
     fn target(&mut self, place: &Place) -> Answer<Spot> {
         let spot = self.spot(place)?;
-        if self.is_born(place) {
+        if self.is_born(place) && spot.ty != Ty::Unit {
             let line = format!("{};", self.types.declare(&spot.ty, &spot.whole(), self.at)?);
             self.say(line);
         }
@@ -199,7 +232,7 @@ impl CFunction<'_, '_> {
     /// Stores a value into a place, and declares it with that value where it is born here.
     fn store_at(&mut self, place: &Place, value: &Spot) -> Answer<()> {
         let spot = self.spot(place)?;
-        if self.is_born(place) && value.form == Form::Value {
+        if self.is_born(place) && value.form == Form::Value && spot.ty != Ty::Unit {
             self.same(&spot.ty, &value.ty)?;
             let line = format!("{} = {};", self.types.declare(&spot.ty, &spot.whole(), self.at)?, value.whole());
             self.say(line);
@@ -223,6 +256,10 @@ impl CFunction<'_, '_> {
     /// A store into what is never read is made, so that all of it is known, and then left out: C compilers warn of it. So
     /// is one that makes a table.
     pub(super) fn assign(&mut self, to: &Place, value: &Value) -> Answer<()> {
+        let unit = self.shape(&self.types.program.type_at(self.function, to, self.at)?)? == Ty::Unit;
+        if unit && *value != Value::Use(Operand::Unit) {
+            return self.assign_unit(value);
+        }
         let (lines, used) = (self.lines.len(), self.used.clone());
         self.assign_read(to, value)?;
         if self.unread(to) || self.tables.hold(to.local) {
@@ -232,6 +269,25 @@ impl CFunction<'_, '_> {
         if self.unread(to) {
             self.say(format!("/* v{} is not read */", to.local));
         }
+        Ok(())
+    }
+
+    /// What holds nothing is put together of what holds nothing, and is not stored.
+    fn assign_unit(&mut self, value: &Value) -> Answer<()> {
+        let (lines, used) = (self.lines.len(), self.used.clone());
+        match value {
+            Value::AddrOf(place) => {
+                let to = self.types.program.type_at(self.function, place, self.at)?;
+                self.same(&Ty::Unit, &self.shape(&to)?)?;
+            }
+            Value::Use(part) => self.put(&Spot::new("", Ty::Unit), part)?,
+            Value::Aggregate(parts) => {
+                parts.iter().try_for_each(|part| self.put(&Spot::new("", Ty::Unit), part))?;
+            }
+            other => return self.unknown(format!("{other:?} where the unit is due")),
+        }
+        self.lines.truncate(lines);
+        self.used = used;
         Ok(())
     }
 
@@ -250,7 +306,9 @@ impl CFunction<'_, '_> {
         let from = match value {
             Value::Use(operand) => {
                 let from = self.operand(operand)?;
-                let wide = matches!(from.ty, Ty::Array(..)) || self.types.program.fields(&from.ty, self.at)?.is_some();
+                let several = self.types.program.fields(&from.ty, self.at)?.is_some();
+                let wide =
+                    matches!(from.ty, Ty::Array(..)) || several || self.types.program.variants(&from.ty).is_some();
                 match operand {
                     Operand::Copy(read) if wide && self.may_meet(read, to) => {
                         let between = self.temporary(&from.ty)?;
@@ -326,7 +384,7 @@ impl CFunction<'_, '_> {
 
     fn aggregate(&mut self, to: &Place, parts: &[Operand]) -> Answer<()> {
         let named = self.types.program.type_at(self.function, to, self.at)?;
-        if let (Ty::Named(name), [part]) = (&named, parts) {
+        if let (Ty::Named(name), [part], None) = (&named, parts, self.types.program.variants(&named)) {
             return match (self.types.program.declared(name, self.at)?, part) {
                 (Declared::Enum(count), Operand::Int(8, tag)) if (*tag as usize) < *count => {
                     self.store_at(to, &Spot::new(format!("{tag}u"), named.clone()))
@@ -354,6 +412,21 @@ impl CFunction<'_, '_> {
                     self.put(&element, part)?;
                 }
             }
+            (Ty::Named(name), ty) if self.types.program.variants(ty).is_some() => {
+                let variants = self.types.program.variants(ty).unwrap_or_default();
+                let (tag, fields) = match parts.first() {
+                    Some(Operand::Int(8, tag)) => (*tag as usize, variants.get(*tag as usize)),
+                    _ => (0, None),
+                };
+                let Some(fields) = fields.filter(|fields| fields.len() + 1 == parts.len()) else {
+                    return self.unknown(format!("an aggregate of {} parts for {name}", parts.len()));
+                };
+                self.put(&Spot::new(into.dot("tag"), Ty::Int(8)), &parts[0])?;
+                for (number, (field, part)) in fields.iter().zip(&parts[1..]).enumerate() {
+                    let member = Spot::new(into.dot(&CTypes::of_variant(tag, number)), self.shape(field)?);
+                    self.put(&member, part)?;
+                }
+            }
             (Ty::Named(name), ty) => {
                 let fields = self.types.program.fields(ty, self.at)?.unwrap_or_default();
                 if fields.len() != parts.len() {
@@ -361,7 +434,10 @@ impl CFunction<'_, '_> {
                 }
                 for (number, (field, part)) in fields.iter().zip(parts).enumerate() {
                     let ty = self.shape(field)?;
-                    let field = self.field(&into, name, number, ty)?;
+                    let field = match ty {
+                        Ty::Unit => Spot::new("", ty),
+                        _ => self.field(&into, name, number, ty)?,
+                    };
                     self.put(&field, part)?;
                 }
             }
@@ -400,6 +476,22 @@ impl CFunction<'_, '_> {
         Ok(())
     }
 
+    pub(super) fn copy_bits(&mut self, within: bool, ty: &Ty, arguments: &[Operand; 3]) -> Answer<()> {
+        let [from, to, count] = arguments;
+        let (from, to, count) = (self.operand(from)?, self.operand(to)?, self.operand(count)?);
+        self.same(&Ty::Int(64), &count.ty)?;
+        let ty = self.shape(ty)?;
+        let size = match self.types.program.layout(&ty, self.at)? {
+            Some((1, _)) => String::new(),
+            Some((size, _)) => format!(" * {size}"),
+            None => format!(" * sizeof({})", self.types.of(&ty, self.at)?),
+        };
+        self.types.rely_on(&ty);
+        let word = if within { "memmove" } else { "memcpy" };
+        self.say(format!("{word}({}, {}, (size_t){}{size});", to.whole(), from.whole(), count.whole()));
+        Ok(())
+    }
+
     pub(super) fn call(&mut self, name: &str, arguments: &[Operand], to: &Place) -> Answer<()> {
         let Some(callee) = self.types.program.functions.get(name) else {
             return self.unknown(format!("the function {name}, which is not there"));
@@ -414,6 +506,9 @@ impl CFunction<'_, '_> {
         for (argument, ty) in arguments.iter().zip(&callee.locals[1..]) {
             let mut value = self.operand(argument)?;
             self.same(&self.shape(ty)?, &value.ty)?;
+            if value.ty == Ty::Unit {
+                continue;
+            }
             if value.form == Form::Elements {
                 let between = self.temporary(&value.ty)?;
                 self.store(&between, &value)?;
@@ -422,7 +517,7 @@ impl CFunction<'_, '_> {
             texts.push(value.whole());
         }
         let answer = self.shape(&callee.locals[0])?;
-        let call = Spot::new(format!("{}({})", CTypes::c_name(name), texts.join(", ")), answer.clone());
+        let call = Spot::new(format!("{}({})", self.types.c_name(name), texts.join(", ")), answer.clone());
         self.same(&self.shape(&self.types.program.type_at(self.function, to, self.at)?)?, &answer)?;
         if answer == Ty::Unit {
             self.say(format!("{};", call.whole()));
