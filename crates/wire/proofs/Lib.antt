@@ -1,5 +1,4 @@
 -- What is shown of the definitions of wire.
-pub mod Classes
 pub mod Frames
 pub mod Identifiers
 pub mod LegalSettings
@@ -9,5 +8,4 @@ pub mod Refusing
 pub mod Replies
 pub mod Unique
 pub mod Variants
-pub mod Walking
 pub mod WorkedFrames

@@ -1,21 +1,23 @@
 -- Reading a delivered record: the ways to each answer; what was written is read, and what was read is written again.
 use mathlib.Core.Path.{◌≡◌, refl, sym, ap, ◌∙◌}
-use mathlib.Core.Bool.{Bool, true, false, cond, not, ◌||◌, or-true, false≢true}
-use mathlib.Core.Logic.{◌≢◌}
+use mathlib.Core.Bool.{Bool, true, false, cond, not, ◌||◌, false≢true}
 use mathlib.Core.List.{List, [], ◌∷◌, ◌++◌, append-nil, append_assoc}
 use Prim.Native.Nat.{ℕ, zero, suc, ◌+◌, ◌-◌, ◌*◌, ◌/◌, ◌%◌, ◌≤◌, ◌<◌}
 use native.Mathlib.Nat.{zero-add}
 use native.Mathlib.Omega.{arith}
-use borrow.Author.Tests.{lt-ltb, le-ltb, eq-eqb, ne_eqb, ltb-false, eqb-true}
+use borrow.Author.Tests.{lt-ltb, le-ltb, eq-eqb, ltb-false, eqb-true}
 use lib.ListN.{length, get_or, take, drop, length-append, length-drop, take-append-drop}
 use lib.Seq.{get_or-append-add, drop-append-add, take-append_seam, drop-cons, drop-drop, take-add, length-take-le}
 use lib.Dec.{eqb, ltb}
 use Rattle.wire.specs.declared.ids.Stream.{Stream}
+use Rattle.std.specs.Prelude.{Result, Ok, Err}
+use Rattle.std.specs.Result.{is_ok}
 use Rattle.wire.specs.declared.delivered.RecordAt.{RecordAt}
+use Rattle.wire.specs.declared.delivered.Fault.{Fault}
 use Rattle.wire.specs.declared.delivered.Fault.TheVariants.{Cut, OtherKind, OtherLength}
 use Rattle.wire.specs.Frames.{max_payload}
 use Rattle.wire.specs.Delivered.{little_endian, delivered_kind, record_of, over, fitting, number_at, following}
-use Rattle.wire.specs.Delivered.{is_cut, other_length, record_found, no_record, record_at}
+use Rattle.wire.specs.Delivered.{is_cut, other_length, ReadAt, record_found, no_record, record_at, the_record, as_read}
 use Rattle.wire.specs.Delivered.{records_of, message_in, messages_at, Writable, no_message, one_more, AreBytes}
 use Rattle.wire.proofs.Records.{record_length_law, does_fit}
 
@@ -25,7 +27,7 @@ neither true b e = absurd (false≢true (sym e))
 neither false b e = (refl, e)
 
 -- the answer where no test fails
-abbrev found_at : List ℕ → ℕ → RecordAt
+abbrev found_at : List ℕ → ℕ → ReadAt
 found_at bytes at = record_found (record { 0 = number_at 4 bytes (4 + at) }) (8 + at) (following bytes at - 6)
 
 -- ── the ways to each answer ──
@@ -34,35 +36,11 @@ module _ (bytes : List ℕ) (at : ℕ) where
   unfolding record_at
   no_head h = rw (lt-ltb _ _ h)
 
-  pub no_body : length bytes - at < 2 + following bytes at → no_record Cut ≡ record_at bytes at
+  pub whole : 4 ≤ length bytes - at → 2 + following bytes at ≤ length bytes - at → number_at 2 bytes (2 + at) ≡ delivered_kind
+      → 6 ≤ following bytes at → following bytes at ≤ 14 → found_at bytes at ≡ record_at bytes at
   unfolding record_at
-  no_body h = rw (lt-ltb (length bytes - at) (2 + following bytes at) h, or-true (ltb (length bytes - at) 4))
-
-  module _ (head : 4 ≤ length bytes - at) (body : 2 + following bytes at ≤ length bytes - at) where
-    pub other_kind : number_at 2 bytes (2 + at) ≢ delivered_kind → no_record OtherKind ≡ record_at bytes at
-    unfolding record_at
-    other_kind h = rw (le-ltb (length bytes - at) 4 head, le-ltb _ _ body, ne_eqb _ _ h)
-
-    module _ (kind : number_at 2 bytes (2 + at) ≡ delivered_kind) where
-      pub too_short : following bytes at < 6 → no_record OtherLength ≡ record_at bytes at
-      unfolding record_at
-      too_short h = rw (le-ltb (length bytes - at) 4 head, le-ltb _ _ body, eq-eqb _ _ kind, lt-ltb (following bytes at) 6 h)
-
-      pub too_long : 14 < following bytes at → no_record OtherLength ≡ record_at bytes at
-      unfolding record_at
-      too_long h =
-          rw (le-ltb (length bytes - at) 4 head, le-ltb _ _ body, eq-eqb _ _ kind, lt-ltb 14 (following bytes at) h, or-true (ltb (following bytes at) 6))
-
-      pub whole : 6 ≤ following bytes at → following bytes at ≤ 14 → found_at bytes at ≡ record_at bytes at
-      unfolding record_at
-      whole low high =
-          rw (le-ltb (length bytes - at) 4 head, le-ltb _ _ body, eq-eqb _ _ kind, le-ltb (following bytes at) 6 low, le-ltb 14 (following bytes at) high)
-
--- a number of four bytes is two of two
-pub two_and_two : (bytes : List ℕ) (at : ℕ) → number_at 4 bytes at ≡ number_at 2 bytes at + 65536 * number_at 2 bytes (2 + at)
-two_and_two bytes at =
-    let e : 2 + at ≡ suc (suc at) = omega arith in
-    rw e (omega arith)
+  whole head body kind low high =
+      rw (le-ltb (length bytes - at) 4 head, le-ltb _ _ body, eq-eqb _ _ kind, le-ltb (following bytes at) 6 low, le-ltb 14 (following bytes at) high)
 
 -- ── what was read ──
 -- of a record that was read: the tests that it passed
@@ -74,21 +52,26 @@ record Passed (bytes : List ℕ) (at : ℕ) : Type 0 where
   is : record_at bytes at ≡ found_at bytes at
 
 module _ (bytes : List ℕ) (at : ℕ) where
-  by_tests : (cut kind other : Bool) → is_cut bytes at ≡ cut → eqb (number_at 2 bytes (2 + at)) delivered_kind ≡ kind
-      → other_length (following bytes at) ≡ other
-      → record_at bytes at ≡ cond cut (no_record Cut) (cond (not kind) (no_record OtherKind) (cond other (no_record OtherLength) (found_at bytes at)))
-      → (record_at bytes at).ok ≡ true → Passed bytes at
-  by_tests true kind other c k o e ok = absurd (false≢true (sym (ap (λ (r : RecordAt). r.ok) e) ∙ ok))
-  by_tests false false other c k o e ok = absurd (false≢true (sym (ap (λ (r : RecordAt). r.ok) e) ∙ ok))
-  by_tests false true true c k o e ok = absurd (false≢true (sym (ap (λ (r : RecordAt). r.ok) e) ∙ ok))
-  by_tests false true false c k o e ok =
-      let (head, body) = neither (ltb (length bytes - at) 4) (ltb (length bytes - at) (2 + following bytes at)) c in
-      let (low, high) = neither (ltb (following bytes at) 6) (ltb 14 (following bytes at)) o in
-      record { body = ltb-false _ _ body; kind = eqb-true _ _ k; low = ltb-false _ _ low; high = ltb-false _ _ high; is = e }
+  -- a test that no fault passes
+  module _ (test : ReadAt → Bool) (fails : (fault : Fault) → test (no_record fault) ≡ false) where
+    by_tests : (cut kind other : Bool) → is_cut bytes at ≡ cut → eqb (number_at 2 bytes (2 + at)) delivered_kind ≡ kind
+        → other_length (following bytes at) ≡ other
+        → record_at bytes at ≡ cond cut (no_record Cut) (cond (not kind) (no_record OtherKind) (cond other (no_record OtherLength) (found_at bytes at)))
+        → test (record_at bytes at) ≡ true → Passed bytes at
+    by_tests true kind other c k o e holds = absurd (false≢true (sym (fails Cut) ∙ (sym (ap test e) ∙ holds)))
+    by_tests false false other c k o e holds = absurd (false≢true (sym (fails OtherKind) ∙ (sym (ap test e) ∙ holds)))
+    by_tests false true true c k o e holds = absurd (false≢true (sym (fails OtherLength) ∙ (sym (ap test e) ∙ holds)))
+    by_tests false true false c k o e holds =
+        let (head, body) = neither (ltb (length bytes - at) 4) (ltb (length bytes - at) (2 + following bytes at)) c in
+        let (low, high) = neither (ltb (following bytes at) 6) (ltb 14 (following bytes at)) o in
+        record { body = ltb-false _ _ body; kind = eqb-true _ _ k; low = ltb-false _ _ low; high = ltb-false _ _ high; is = e }
+
+    passes : test (record_at bytes at) ≡ true → Passed bytes at
+    unfolding record_at
+    passes = by_tests (is_cut bytes at) (eqb (number_at 2 bytes (2 + at)) delivered_kind) (other_length (following bytes at)) refl refl refl refl
 
   passed : (record_at bytes at).ok ≡ true → Passed bytes at
-  unfolding record_at
-  passed = by_tests (is_cut bytes at) (eqb (number_at 2 bytes (2 + at)) delivered_kind) (other_length (following bytes at)) refl refl refl refl
+  passed = passes (λ r. r.ok) (λ fault. refl)
 
 -- what a caller needs in order to take the record apart and to go on behind it
 pub record Within (bytes : List ℕ) (at : ℕ) (r : RecordAt) : Type 0 where
@@ -97,10 +80,33 @@ pub record Within (bytes : List ℕ) (at : ℕ) (r : RecordAt) : Type 0 where
   pub next : r.next ≡ r.payload + r.length
   pub inside : r.next ≤ length bytes
 
-pub within : (bytes : List ℕ) (at : ℕ) (r : RecordAt) → r ≡ record_at bytes at → r.ok ≡ true → Within bytes at r
-within bytes at r e ok =
-    let p = passed bytes at (ap (λ (x : RecordAt). x.ok) (sym e) ∙ ok) in
-    rw (e, p.is) (record { payload = refl; short = omega arith; next = refl; inside = omega arith })
+pub within : (bytes : List ℕ) (at : ℕ) → (record_at bytes at).ok ≡ true → Within bytes at (the_record (record_at bytes at))
+within bytes at ok =
+    let p = passed bytes at ok in
+    rw p.is (record { payload = refl; short = omega arith; next = refl; inside = omega arith })
+
+-- ── as it is answered ──
+-- what an answer that is Ok holds
+abbrev held : RecordAt → Result RecordAt Fault → RecordAt
+held other (Ok r) = r
+held other (Err fault) = other
+
+-- the record that was answered is the one that was found
+pub record Answered (bytes : List ℕ) (at : ℕ) (r : RecordAt) : Type 0 where
+  pub ok : (record_at bytes at).ok ≡ true
+  pub is : r ≡ the_record (record_at bytes at)
+
+module _ (bytes : List ℕ) (at : ℕ) (r : RecordAt) where
+  pub answered_record : Ok r ≡ as_read (record_at bytes at) → Answered bytes at r
+  answered_record h =
+      let p = passes bytes at (λ x. is_ok (as_read x)) (λ fault. refl) (sym (ap is_ok h)) in
+      record { ok = ap (λ (x : ReadAt). x.ok) p.is; is = ap (held r) (h ∙ ap as_read p.is) ∙ sym (ap the_record p.is) }
+
+  -- so that the caller can take it apart
+  pub answered_within : Ok r ≡ as_read (record_at bytes at) → Within bytes at r
+  answered_within h =
+      let a = answered_record h in
+      rw a.is (within bytes at a.ok)
 
 -- ── what was written is read ──
 -- the bytes behind some others are found as far behind them
@@ -248,12 +254,12 @@ pub record Front (bytes some : List ℕ) : Type 0 where
 
 module _ (most : ℕ) (bytes : List ℕ) (at : ℕ) (low : AreBytes bytes)
     (others : (next : ℕ) → Front (drop next bytes) (records_of (messages_at most bytes next))) where
-  abbrev r : RecordAt
+  abbrev r : ReadAt
   r = record_at bytes at
 
   by_answer : (ok : Bool) → r.ok ≡ ok → Front (drop at bytes) (records_of (cond ok (message_in bytes r ∷ messages_at most bytes r.next) []))
   by_answer true e =
-      let w = within bytes at r refl e in
+      let w = within bytes at e in
       let gone : at + (r.next - at) ≡ r.next = omega arith in
       record {
         rest = (others r.next).rest;

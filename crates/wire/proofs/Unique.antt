@@ -8,7 +8,7 @@ use Rattle.wire.proofs.delivered.record_length.Reads as record_length_law
 use Rattle.wire.proofs.delivered.write_record.Reads as write_record
 use Rattle.wire.proofs.frame.at_most_payload.Reads as at_most_payload
 use Rattle.wire.proofs.ids.BusId.is_bare.Reads as is_bare
-use Rattle.wire.proofs.frame.frame_reply.Reads as frame_reply
+use Rattle.wire.proofs.frame.check_frame.Reads as check_frame
 use Rattle.wire.proofs.ids.BusId.split.Reads as split
 use Rattle.wire.proofs.ids.Stream.join.Reads as join
 use Rattle.wire.proofs.reply.Reply.number.Reads as number
@@ -47,8 +47,8 @@ at_most_payload_unique l input a b s t = same
 pub is_bare_unique : OneAnswer is_bare.Post
 is_bare_unique l input a b s t = same
 
-pub frame_reply_unique : OneAnswer frame_reply.Post
-frame_reply_unique l input a b s t = same
+pub check_frame_unique : OneAnswer check_frame.Post
+check_frame_unique l input a b s t = same
 
 pub split_unique : OneAnswer split.Post
 split_unique l input a b s t = same

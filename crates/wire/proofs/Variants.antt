@@ -1,7 +1,7 @@
 -- Of an enum whose variants have no fields: a test that is true at each variant is true of every value, and numbers that are apart at any
 -- two variants tell values apart. Both tests are computed, so a further variant asks for no further proof.
 use mathlib.Core.Path.{◌≡◌, refl, sym, ap, ◌∙◌}
-use mathlib.Core.Bool.{Bool, true, false, not, ◌&&◌, ◌||◌, false≢true}
+use mathlib.Core.Bool.{Bool, true, false, not, ◌&&◌, ◌||◌, and-eq-true_iff, false≢true}
 use mathlib.Core.Logic.{inl, inr}
 use mathlib.Core.List.{List, [], ◌∷◌}
 use Prim.Native.Nat.{ℕ, suc}
@@ -17,14 +17,10 @@ each [] test = true
 each ([] ∷ parts) test = test (inl tt) && each parts (λ c. test (inr c))
 each ((field ∷ fields) ∷ parts) test = false
 
-both : (a b : Bool) → (a && b) ≡ true → (a ≡ true) × (b ≡ true)
-both true b e = (refl, e)
-both false b e = absurd (false≢true e)
-
 each_choice : (parts : List (List Field)) (test : Choice parts → Bool) → each parts test ≡ true → (c : Choice parts) → test c ≡ true
 each_choice [] test e c = absurd c
-each_choice ([] ∷ parts) test e (inl x) = (both (test (inl tt)) (each parts (λ c. test (inr c))) e).0
-each_choice ([] ∷ parts) test e (inr c) = each_choice parts (λ c. test (inr c)) (both (test (inl tt)) (each parts (λ c. test (inr c))) e).1 c
+each_choice ([] ∷ parts) test e (inl x) = ((and-eq-true_iff (test (inl tt)) (each parts (λ c. test (inr c)))).0 e).0
+each_choice ([] ∷ parts) test e (inr c) = each_choice parts (λ c. test (inr c)) ((and-eq-true_iff (test (inl tt)) (each parts (λ c. test (inr c)))).0 e).1 c
 each_choice ((field ∷ fields) ∷ parts) test e c = absurd (false≢true e)
 
 -- which variant it is, counted from 0
@@ -61,7 +57,7 @@ module _ (N : Record) where
 
   pub told_apart : (number : N.D → ℕ) → all_apart number ≡ true → (a b : N.D) → number a ≡ number b → a ≡ b
   told_apart number e a b same =
-      let (plain, two) = both (each N.parts (λ c. true)) (everywhere (λ x. everywhere (λ y. apart number (x, y)))) e in
+      let (plain, two) = (and-eq-true_iff (each N.parts (λ c. true)) (everywhere (λ x. everywhere (λ y. apart number (x, y))))).0 e in
       let here : apart number (a, b) ≡ true = at_each (λ y. apart number (a, y)) (at_each (λ x. everywhere (λ y. apart number (x, y))) two a) b in
       let turns : turn_of a ≡ turn_of b = eqb-true _ _ (ap (λ (t : Bool). not t || eqb (turn_of a) (turn_of b)) (sym (eq-eqb _ _ same)) ∙ here) in
       sym (N.eta a) ∙ ap N.make (one_turn N.parts plain (N.as_values a) (N.as_values b) turns) ∙ N.eta b

@@ -1,10 +1,9 @@
 -- Joining a stream number and a code to a bus identifier, and splitting it.
 use Rattle.std.specs.Prelude.{ℕ, ◌+◌, ◌*◌, ◌/◌, ◌%◌, cond, ◌&&◌, leb}
+use Rattle.wire.specs.declared.reply.Reply.{Reply}
 use Rattle.wire.specs.declared.reply.Reply.TheVariants.{Done, BadSettings, BadFrame}
 use Rattle.wire.specs.declared.ids.Stream.{Stream}
 use Rattle.wire.specs.declared.ids.BusId.{BusId}
-use Rattle.wire.specs.declared.ids.Joined.{Joined}
-use Rattle.wire.specs.declared.ids.Parts.{Parts}
 
 -- a stream number has 27 bits, a bus identifier 29
 abbrev pub max_stream : ℕ
@@ -25,6 +24,16 @@ code_of i = i.0 % 4
 
 abbrev pub id_of : Stream → ℕ → BusId
 id_of s code = record { 0 = s.0 * 4 + code }
+
+-- a reply, and what comes with it where it is Done
+pub record Joined : Type 0 where
+  pub reply : Reply
+  pub id : BusId
+
+pub record Parts : Type 0 where
+  pub reply : Reply
+  pub stream : Stream
+  pub code : ℕ
 
 unfoldable pub join : Stream → ℕ → Joined
 join s code =

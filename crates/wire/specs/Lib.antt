@@ -1,5 +1,6 @@
 -- The definitions that the promises of wire cite.
 pub mod Replies
+pub mod Answers
 pub mod Refusals
 pub mod Tells
 pub mod Identifiers

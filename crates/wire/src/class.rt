@@ -2,22 +2,16 @@
 ghost use Rattle.std.specs.Prelude.{◌≡◌};
 ghost use Rattle.wire.specs.Classes.{carries};
 
-const CARRIES: [[bool; 4]; 3] = [
-    [false, false, false, true], // plain
-    [true, false, false, false], // IMD
-    [true, true, true, false], // 2M
-];
+use crate::settings::Settings;
 
-// Whether frames of this class may have this code; outside the table none may.
+// Whether frames of this class may have this code. Kept as numbers: a node of any content is asked, and what is no class
+// or no code carries nothing.
+#[tactic(auto, unfolding(crate::specs::Classes::carries))]
 pub fn carries(class: u8, code: u32) -> bool
     ensures { result ≡ carries class code }
 {
-    let k = class as usize;
-    let c = code as usize;
-    if k < 3 {
-        if c < 4 {
-            return CARRIES[k][c];
-        }
-    }
-    false
+    matches!(
+        (class, code),
+        (Settings::PLAIN, 3) | (Settings::IMD, 0) | (Settings::TWO_MESSAGE, 0 | 1 | 2)
+    )
 }

@@ -1,5 +1,6 @@
 // Whether what the controller hands over is a frame at all.
 ghost use Rattle.std.specs.Prelude.{◌≡◌, min, length};
+ghost use Rattle.wire.specs.Answers.{answered};
 ghost use Rattle.wire.specs.Refusals.{reply_of};
 ghost use Rattle.wire.specs.Frames.{max_payload, is_bare, frame_refusals};
 
@@ -15,7 +16,7 @@ pub const MAX_PAYLOAD: usize = 8;
 pub fn at_most_payload(n: usize) -> usize
     ensures { result ≡ min n max_payload }
 {
-    if n <= MAX_PAYLOAD { n } else { MAX_PAYLOAD }
+    n.min(MAX_PAYLOAD)
 }
 
 impl BusId {
@@ -23,26 +24,25 @@ impl BusId {
     pub fn is_bare(self) -> bool
         ensures { result ≡ is_bare self }
     {
-        let code = self.0 % 4;
-        (code == 1) | (code == 2)
+        matches!(self.0 % 4, 1 | 2)
     }
 }
 
-// The first fault of what was handed over, where it makes no frame; `bare` where frames of its kind come without a payload.
-pub fn frame_reply(bare: bool, id: BusId, dlc: u8, payload: &[u8]) -> Reply
-    ensures { result ≡ reply_of (frame_refusals bare id dlc (length payload.now)) }
+// Refuses what is no frame, for its first fault; `bare` where frames of its kind come without a payload.
+pub fn check_frame(bare: bool, id: BusId, dlc: u8, payload: &[u8]) -> Result<(), Reply>
+    ensures { result ≡ answered (reply_of (frame_refusals bare id dlc (length payload.now))) tt }
 {
     if id.0 > BusId::MAX {
-        return Reply::IdentifierTooBig;
+        return Err(Reply::IdentifierTooBig);
     }
     if dlc > MAX_DLC {
-        return Reply::DlcTooBig;
+        return Err(Reply::DlcTooBig);
     }
-    if payload.len() != at_most_payload(dlc as usize) {
-        return Reply::PayloadLength;
+    if payload.len() != at_most_payload(usize::from(dlc)) {
+        return Err(Reply::PayloadLength);
     }
-    if bare & (dlc != 0) {
-        return Reply::UnwantedPayload;
+    if bare && dlc != 0 {
+        return Err(Reply::UnwantedPayload);
     }
-    Reply::Done
+    Ok(())
 }

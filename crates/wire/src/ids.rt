@@ -1,77 +1,46 @@
 // Stream numbers and bus identifiers, two types that are never mixed; join and split go between them.
 ghost use Rattle.std.specs.Prelude.{◌≡◌};
+ghost use Rattle.wire.specs.Answers.{answered};
 ghost use Rattle.wire.specs.Identifiers.{join, split};
 
 use crate::reply::Reply;
 
 #[repr(C)]
-#[derive(Clone, Copy)]
+#[derive(Clone, Copy, Debug, PartialEq, Eq)]
 pub struct Stream(pub u32);
 
-#[derive(Clone, Copy)]
+#[derive(Clone, Copy, Debug, PartialEq, Eq)]
 pub struct BusId(pub u32);
 
 impl Stream {
     // The highest stream number: 27 bits.
     pub const MAX: u32 = 134217727;
+
+    // The bus identifier of the stream's frames with this code. The code is kept as a number: C hands it over so
+    // (`kosmydore_join`), and one above 3 is refused.
+    #[tactic(auto, unfolding(crate::specs::Identifiers::join))]
+    pub fn join(self, code: u32) -> Result<BusId, Reply>
+        ensures { result ≡ answered (join self code).reply (join self code).id }
+    {
+        if self.0 <= Stream::MAX && code <= 3 {
+            return Ok(BusId(self.0 * 4 + code));
+        }
+        Err(Reply::BadSettings)
+    }
 }
 
 impl BusId {
     // The highest bus identifier: 29 bits.
     pub const MAX: u32 = 536870911;
-}
 
-#[derive(Clone, Copy)]
-pub struct Joined {
-    pub reply: Reply,
-    pub id: BusId,
-}
-
-#[derive(Clone, Copy)]
-pub struct Parts {
-    pub reply: Reply,
-    pub stream: Stream,
-    pub code: u32,
-}
-
-impl Stream {
-    // The bus identifier of the stream's frames with this code.
-    pub fn join(self, code: u32) -> Joined
-        ensures { result ≡ join self code }
+    // The stream and the code of a bus identifier. The code is kept as a number, as in `join`: C takes it so.
+    #[tactic(auto, unfolding(crate::specs::Identifiers::split))]
+    pub fn split(self) -> Result<(Stream, u32), Reply>
+        ensures { result ≡ answered (split self).reply ((split self).stream, (split self).code) }
     {
-        let s = self.0;
-        if s <= Stream::MAX {
-            if code <= 3 {
-                return Joined {
-                    reply: Reply::Done,
-                    id: BusId(s * 4 + code),
-                };
-            }
+        if self.0 <= BusId::MAX {
+            return Ok((Stream(self.0 / 4), self.0 % 4));
         }
-        Joined {
-            reply: Reply::BadSettings,
-            id: BusId(0),
-        }
-    }
-}
-
-impl BusId {
-    // The stream and the code of a bus identifier.
-    pub fn split(self) -> Parts
-        ensures { result ≡ split self }
-    {
-        let n = self.0;
-        if n <= BusId::MAX {
-            return Parts {
-                reply: Reply::Done,
-                stream: Stream(n / 4),
-                code: n % 4,
-            };
-        }
-        Parts {
-            reply: Reply::BadFrame,
-            stream: Stream(0),
-            code: 0,
-        }
+        Err(Reply::BadFrame)
     }
 }

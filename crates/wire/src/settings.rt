@@ -7,8 +7,9 @@ use crate::ids::Stream;
 // Made by the functions below, wherever they are made: a new field is added here and in
 // `specs/Settings.antt`.
 #[repr(C)]
-#[derive(Clone, Copy)]
+#[derive(Clone, Copy, Debug, PartialEq, Eq)]
 pub struct Settings {
+    // Kept as numbers: they stand by value in the node that C holds, and a node of any content keeps every promise.
     pub role: u8,
     pub class: u8,
     // Data reach, in ticks.
@@ -40,7 +41,7 @@ impl Settings {
 
     pub const MAX_DELIVER_DELAY: u32 = 16000;
 
-    // Of a slot that is not set up.
+    // Of a slot that is not set up: the node that C holds has all its slots by value.
     pub const NONE: Settings = Settings {
         role: 0,
         class: 0,
@@ -88,43 +89,45 @@ impl Settings {
     {
         legal_numbers(
             stream.0,
-            self.role as u32,
-            self.class as u32,
-            self.rd as u32,
-            self.dc as u32,
-            self.ra as u32,
-            self.dd as u32,
+            self.role.into(),
+            self.class.into(),
+            self.rd.into(),
+            self.dc.into(),
+            self.ra.into(),
+            self.dd.into(),
         )
     }
 }
 
-// The same test on seven plain numbers of any size, by class first: the numbers of the other classes are not looked at.
+// The same test on seven plain numbers of any size, as C hands them over (`kosmydore_settings_reply`), by class first: the
+// numbers of the other classes are not looked at.
+#[tactic(auto, unfolding(crate::specs::Settings::legal))]
 pub fn legal_numbers(stream: u32, role: u32, class: u32, rd: u32, dc: u32, ra: u32, dd: u32) -> bool
     ensures { result ≡ legal (record { 0 = stream }) (settings role class rd dc ra dd) }
 {
-    if !((stream <= Stream::MAX) & (role <= Settings::SEND as u32)) {
+    if stream > Stream::MAX || role > u32::from(Settings::SEND) {
         return false;
     }
-    if class == Settings::PLAIN as u32 {
-        return (rd == 0) & (dc == 0) & (ra == 0) & (dd == 0);
+    if class == u32::from(Settings::PLAIN) {
+        return rd == 0 && dc == 0 && ra == 0 && dd == 0;
     }
-    if class == Settings::IMD as u32 {
-        return (1 <= rd)
-            & (rd <= Settings::MAX_DATA_REACH)
-            & (dc == 0)
-            & (ra == 0)
-            & (rd <= dd)
-            & (dd <= Settings::MAX_DELIVER_DELAY);
+    if class == u32::from(Settings::IMD) {
+        return 1 <= rd
+            && rd <= Settings::MAX_DATA_REACH
+            && dc == 0
+            && ra == 0
+            && rd <= dd
+            && dd <= Settings::MAX_DELIVER_DELAY;
     }
-    if class == Settings::TWO_MESSAGE as u32 {
-        return (1 <= rd)
-            & (rd <= Settings::MAX_DATA_REACH)
-            & (rd <= dc)
-            & (dc <= Settings::MAX_CONFIRM_DELAY)
-            & (1 <= ra)
-            & (ra <= Settings::MAX_ABORT_REACH)
-            & ((dc as u64) + (ra as u64) + 1 <= (dd as u64))
-            & (dd <= Settings::MAX_DELIVER_DELAY);
+    if class == u32::from(Settings::TWO_MESSAGE) {
+        return 1 <= rd
+            && rd <= Settings::MAX_DATA_REACH
+            && rd <= dc
+            && dc <= Settings::MAX_CONFIRM_DELAY
+            && 1 <= ra
+            && ra <= Settings::MAX_ABORT_REACH
+            && dc + ra + 1 <= dd
+            && dd <= Settings::MAX_DELIVER_DELAY;
     }
     false
 }
