@@ -10,12 +10,13 @@ use lib.Dec.{ltb}
 use borrow.Author.Tests.{eqb-true, eq-eqb, ltb-true, ltb-false}
 use Rattle.response.specs.declared.streams.StreamRecord.{StreamRecord}
 use Rattle.response.specs.declared.streams.Errors.{Errors}
-use Rattle.response.specs.declared.verdict.Verdict.TheVariants.{Done, ShortOutput, BadStream, Late}
+use Rattle.response.specs.Verdicts.{Done, ShortOutput, BadStream, Late}
 use Rattle.response.specs.Streams.{at, legal, Legal}
 use Rattle.response.specs.Waiting.{demand, solves, timely, waiting, response}
 use Rattle.response.specs.Sheet.{is_timely, first_late, times, all_timely, verdict, if_done, written}
 use Rattle.response.specs.InWords.{LeastSolution, NoSolution, Taken, Times, Judged, bad, short, late, all}
 use Rattle.response.proofs.Limits.{legal_tells}
+use Rattle.response.proofs.Solving.{times_count}
 use Rattle.response.proofs.Least.{Tested, least_tested}
 
 -- ── one stream ──
@@ -69,11 +70,6 @@ module _ (streams : List StreamRecord) (errors : Errors) where
       by_test false e h later = e
       by_test true e h later = later (le_of_suc-le-suc h)
 
-  times_count : (l : List StreamRecord) → length (times streams l errors) ≡ 2 * length l
-  unfolding times
-  times_count [] = refl
-  times_count (s ∷ l) = omega (arith, times_count l)
-
   -- the two numbers of a stream
   waiting_at : (l : List StreamRecord) (k : ℕ) → k < length l → get_or (times streams l errors) (2 * k) 0 ≡ waiting streams errors (at l k)
   unfolding times
@@ -91,7 +87,7 @@ module _ (streams : List StreamRecord) (errors : Errors) where
 
   times_tell : (room : ℕ) → length streams ≤ first_late streams streams errors → Times streams errors room (times streams streams errors)
   times_tell room none = record {
-    count = times_count streams;
+    count = times_count streams streams errors;
     waiting = λ k h. rw (waiting_at streams k h) (least_solution streams errors (at streams k) (before_late streams k (omega arith)));
     response = λ k h. response_at streams k h ∙ ap (λ (w : ℕ). w + (at streams k).c) (sym (waiting_at streams k h));
   }

@@ -1,5 +1,4 @@
 -- What is shown of the definitions of response.
-pub mod Answering
 pub mod Claims
 pub mod Gathering
 pub mod InWords
@@ -9,7 +8,5 @@ pub mod Listed
 pub mod Rounds
 pub mod Solutions
 pub mod Solving
-pub mod Tabled
 pub mod TableThree
 pub mod Unique
-pub mod Writing

@@ -1,5 +1,6 @@
 -- The test of a list is true exactly where every number is within its limits and all priorities are different.
-use mathlib.Core.Path.{refl}
+use mathlib.Core.Path.{◌≡◌, refl}
+use mathlib.Core.Bool.{true}
 use mathlib.Core.Logic.{◌≢◌}
 use mathlib.Core.List.{List, [], ◌∷◌}
 use Prim.Native.Nat.{ℕ, zero, suc, ◌<◌}
@@ -78,3 +79,6 @@ legal_tells streams errors =
     (λ ((count, errors), records). record { count = count; errors = errors; records = records })
     (λ h. ((h.count, h.errors), h.records))
     (at_most (length streams) most_streams and errors_tell errors and records_tell streams)
+
+pub legal_says : (streams : List StreamRecord) (errors : Errors) → legal streams errors ≡ true → Legal streams errors
+legal_says streams errors = (legal_tells streams errors).says

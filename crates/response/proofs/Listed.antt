@@ -1,37 +1,51 @@
--- The first records of a table, taken one by one.
-use mathlib.Core.Path.{◌≡◌, sym, ◌∙◌}
-use mathlib.Core.Bool.{true}
-use mathlib.Core.List.{List, [], ◌∷◌, map}
-use Prim.Native.Nat.{ℕ, ◌+◌, ◌-◌, ◌≤◌, ◌<◌}
+-- The records of a list, taken one by one from the front.
+use mathlib.Core.Path.{◌≡◌, refl}
+use mathlib.Core.Bool.{true, ◌&&◌, cond}
+use mathlib.Core.List.{List, [], ◌∷◌}
+use Prim.Native.Nat.{ℕ, ◌+◌, ◌-◌, ◌*◌, ◌≤◌, ◌<◌, max}
 use native.Mathlib.Numerals.{add-one}
-use native.Mathlib.Omega.{arith}
-use lib.ListN.{length, take, drop, length-map, drop_of_length-le}
-use lib.Seq.{length-take-le, drop-cons, get_or-take}
+use lib.ListN.{length, take, drop, drop_of_length-le}
+use lib.Seq.{drop-cons}
+use Rattle.std.proofs.lemmas.List.{take_rest}
 use Rattle.response.specs.declared.streams.StreamRecord.{StreamRecord}
-use Rattle.response.specs.Streams.{blank, at, legal_records, LegalRecord}
-use Rattle.response.proofs.Limits.{records_tell}
+use Rattle.response.specs.Streams.{at, blank, unused, legal_record, legal_records}
+use Rattle.response.specs.Waiting.{ceiling, goes_before, blocking, interference}
 
-pub length_of_mapped : (X Y : Type 0) (f : X → Y) (l : List X) (n : ℕ) → length (map f l) ≡ n → length l ≡ n
-length_of_mapped X Y f l n p = sym (length-map l f) ∙ p
+module _ (streams : List StreamRecord) (k : ℕ) where
+  module _ (less : k < length streams) where
+    next : drop k streams ≡ at streams k ∷ drop (k + 1) streams
+    next = rw (add-one k) (drop-cons streams k blank less)
 
-module _ (streams : List StreamRecord) (len : ℕ) (fits : len ≤ length streams) where
-  pub listed_length : length (take len streams) ≡ len
-  listed_length = length-take-le len streams fits
+    -- the record at the place, and those after it
+    pub legal_records_from : legal_records (drop k streams)
+        ≡ (legal_record (at streams k) && unused (at streams k).priority (take (length streams - (k + 1)) (drop (k + 1) streams))
+        && legal_records (drop (k + 1) streams))
+    unfolding legal_records
+    legal_records_from = rw (next, take_rest streams (k + 1)) refl
 
-  pub listed_at : (k : ℕ) → k < len → at (take len streams) k ≡ at streams k
-  listed_at k less = get_or-take len streams k blank less
+    pub blocking_from : (s : StreamRecord) → blocking (drop k streams) s
+        ≡ max (cond (goes_before s (at streams k)) (at streams k).c 0) (blocking (drop (k + 1) streams) s)
+    unfolding blocking
+    blocking_from s = rw next refl
 
-  pub legal_listed : legal_records (take len streams) ≡ true → (k : ℕ) → k < len → LegalRecord (at streams k)
-  legal_listed legal_streams k less =
-      rw (← listed_at k less) (((records_tell (take len streams)).says legal_streams).each k (omega (arith, listed_length)))
+    pub interference_from : (s : StreamRecord) (w : ℕ) → interference (drop k streams) s w
+        ≡ cond (goes_before (at streams k) s) (ceiling (w + 1) (at streams k).t * (at streams k).c) 0 + interference (drop (k + 1) streams) s w
+    unfolding interference
+    interference_from s w = rw next refl
 
-  -- the record at a place, and those after it
-  pub next_listed : (k : ℕ) → k < len → drop k (take len streams) ≡ at streams k ∷ drop (k + 1) (take len streams)
-  next_listed k less =
-      rw (add-one, ← listed_at k less) (drop-cons (take len streams) k blank (omega (arith, listed_length)))
+  -- past the end
+  module _ (past : length streams ≤ k) where
+    none : drop k streams ≡ []
+    none = drop_of_length-le streams {i = k} past
 
-  pub previous_listed : (k : ℕ) → 1 ≤ k → k ≤ len → drop (k - 1) (take len streams) ≡ at streams (k - 1) ∷ drop k (take len streams)
-  previous_listed k pos less = let back : k - 1 + 1 ≡ k = omega arith in rw (next_listed (k - 1) (omega arith), back)
+    pub legal_records_past : legal_records (drop k streams) ≡ true
+    unfolding legal_records
+    legal_records_past = rw none refl
 
-  pub none_left : drop len (take len streams) ≡ []
-  none_left = drop_of_length-le (take len streams) {i = len} (omega (arith, listed_length))
+    pub blocking_past : (s : StreamRecord) → blocking (drop k streams) s ≡ 0
+    unfolding blocking
+    blocking_past s = rw none refl
+
+    pub interference_past : (s : StreamRecord) (w : ℕ) → interference (drop k streams) s w ≡ 0
+    unfolding interference
+    interference_past s w = rw none refl

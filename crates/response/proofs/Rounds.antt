@@ -4,24 +4,21 @@ use mathlib.Core.List.{List}
 use Prim.Native.Nat.{ℕ, ◌+◌, ◌≤◌, ◌<◌, max}
 use native.Mathlib.Nat.{max-le}
 use native.Mathlib.Omega.{arith}
-use Rattle.response.specs.Streams.{most}
+use Rattle.response.specs.declared.claim.Claim.{Claim}
 use Rattle.response.specs.Waiting.{least_from}
-use Rattle.response.specs.Recurrence.{asked, solves_with, Ready, NoneBelow}
+use Rattle.response.specs.Recurrence.{asked, solves_with, NoneBelow}
 use Rattle.response.proofs.Claims.{asked_mono}
 use Rattle.response.proofs.Solutions.{Below, least_is, least_is_room, passes_none, stops_at_one}
 
-pub ready_at : {costs periods leads : List ℕ} {n w : ℕ} → Ready costs periods leads n w → (v : ℕ) → v ≤ most → Ready costs periods leads n v
-ready_at q v small = record { count = q.count; claims = q.claims; waiting = small }
-
-module _ {costs periods leads : List ℕ} {n : ℕ} (ready : Ready costs periods leads n 0) (blocking : ℕ) where
+module _ (claims : List Claim) (blocking : ℕ) where
   abbrev right : ℕ → ℕ
-  right w = blocking + asked costs periods leads n w
+  right w = blocking + asked claims w
 
   never_falls : (w v : ℕ) → w ≤ v → right w ≤ right v
-  never_falls w v h = omega (arith, asked_mono costs periods leads n ready w v h)
+  never_falls w v h = omega (arith, asked_mono claims w v h)
 
   abbrev None : ℕ → ℕ → Type 0
-  None = NoneBelow costs periods leads n blocking
+  None = NoneBelow claims blocking
 
   from_zero : (w : ℕ) → None 0 w → Below right w
   from_zero w none v e = none v (omega arith) e
@@ -29,11 +26,11 @@ module _ {costs periods leads : List ℕ} {n : ℕ} (ready : Ready costs periods
   pub goes_on : (w far : ℕ) → None 0 w → None w far → None 0 (max (right w) far)
   goes_on w far none more v h e = max-le (passes_none right never_falls w (from_zero w none) v e) (more v (none v h e) e)
 
-  pub ends_at : (w room : ℕ) → None 0 w → right w ≤ w → w < room → w ≡ least_from 0 room (solves_with costs periods leads n blocking)
+  pub ends_at : (w room : ℕ) → None 0 w → right w ≤ w → w < room → w ≡ least_from 0 room (solves_with claims blocking)
   unfolding solves_with
   ends_at w room none down less =
       sym (least_is right w room (from_zero w none) (stops_at_one right never_falls w (from_zero w none) down) less)
 
-  pub ends_past : (w room : ℕ) → None 0 w → room ≤ w → room ≡ least_from 0 room (solves_with costs periods leads n blocking)
+  pub ends_past : (w room : ℕ) → None 0 w → room ≤ w → room ≡ least_from 0 room (solves_with claims blocking)
   unfolding solves_with
   ends_past w room none past = sym (least_is_room right w room (from_zero w none) past)

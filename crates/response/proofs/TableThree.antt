@@ -4,7 +4,7 @@ use mathlib.Core.List.{List, [], ◌∷◌, map}
 use Prim.Native.Nat.{ℕ, ◌+◌, ◌-◌}
 use Rattle.response.specs.declared.streams.StreamRecord.{StreamRecord}
 use Rattle.response.specs.declared.streams.Errors.{Errors}
-use Rattle.response.specs.declared.verdict.Verdict.TheVariants.{Done, ShortOutput, BadStream, Late}
+use Rattle.response.specs.Verdicts.{Done, ShortOutput, BadStream, Late}
 use Rattle.response.specs.Streams.{legal, legal_errors, legal_record, legal_records, unused}
 use Rattle.response.specs.Waiting.{blocking, interference, demand, least_from, waiting}
 use Rattle.response.specs.Sheet.{first_late, times, verdict, written}

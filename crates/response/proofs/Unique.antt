@@ -1,6 +1,7 @@
 -- Every public promise of the crate is met by one answer only, and by one content of the lent output.
-use mathlib.Core.Path.{◌≡◌, refl}
+use mathlib.Core.Path.{◌≡◌, refl, sym, ap, ◌∙◌}
 use mathlib.Core.List.{List}
+use Rattle.std.specs.Prelude.{Result, Ok, Err}
 use Prim.Native.Nat.{ℕ}
 use seplogic.Ra.Ura.{Ura}
 use base.Logic.{SProp}
@@ -15,12 +16,14 @@ use Rattle.wire.specs.Uniqueness.{OneAnswer, OneContent}
 use Rattle.wire.proofs.Unique.{same}
 use Rattle.response.specs.declared.streams.StreamRecord.{StreamRecord}
 use Rattle.response.specs.declared.streams.Errors.{Errors}
-use Rattle.response.specs.declared.verdict.Verdict.{Verdict}
+use Rattle.response.specs.declared.refusal.Refusal.{Refusal}
+use Rattle.response.specs.declared.refusal.Refusal.TheVariants as refusal
+use Rattle.response.specs.Verdicts.{Verdict, Done, ShortOutput, BadStream, Late, verdict_of}
 use Rattle.response.specs.Sheet.{Answers}
 use Rattle.response.proofs.streams.StreamRecord.legal.Reads as legal_record
 use Rattle.response.proofs.streams.Errors.legal.Reads as legal_errors
-use Rattle.response.proofs.verdict.Verdict.number.Reads as number
-use Rattle.response.proofs.verdict.Verdict.position.Reads as position
+use Rattle.response.proofs.refusal.Refusal.number.Reads as number
+use Rattle.response.proofs.refusal.Refusal.position.Reads as position
 use Rattle.response.proofs.lent.solve_array.Reads as solve_array
 use Rattle.response.specs.contracts.lent.solve as solve
 
@@ -36,10 +39,23 @@ number_unique l input a b s t = same
 pub position_unique : OneAnswer position.Post
 position_unique l input a b s t = same
 
+-- a verdict is that of one answer
+abbrev answer_of : Verdict → Result Unit Refusal
+answer_of Done = Ok tt
+answer_of ShortOutput = Err refusal.ShortOutput
+answer_of BadStream = Err refusal.BadStream
+answer_of (Late at) = Err (refusal.Late at)
+
+answer_back : (r : Result Unit Refusal) → answer_of (verdict_of r) ≡ r
+answer_back (Ok done) = refl
+answer_back (Err refusal.ShortOutput) = refl
+answer_back (Err refusal.BadStream) = refl
+answer_back (Err (refusal.Late at)) = refl
+
 -- what is answered for a list, and what is left in the output
-pub answers_unique : {streams : List StreamRecord} {errors : Errors} {out : List ℕ} {r r' : Verdict} {after after' : List ℕ}
+pub answers_unique : {streams : List StreamRecord} {errors : Errors} {out : List ℕ} {r r' : Result Unit Refusal} {after after' : List ℕ}
     → Answers streams errors out r after → Answers streams errors out r' after' → (r ≡ r') × (after ≡ after')
-answers_unique p q = (same p.says q.says, same p.leaves q.leaves)
+answers_unique {r = r} {r' = r'} p q = (sym (answer_back r) ∙ ap answer_of (same p.says q.says) ∙ answer_back r', same p.leaves q.leaves)
 
 pub solve_array_unique : OneAnswer solve_array.Post
 solve_array_unique l input a b s t p q = (answers_unique p q).0

@@ -2,8 +2,7 @@
 use Rattle.std.specs.Prelude.{◌≡◌, List, [], ℕ, ◌+◌, ◌*◌, ◌≤◌, ◌<◌, length, get_or}
 use Rattle.response.specs.declared.streams.StreamRecord.{StreamRecord}
 use Rattle.response.specs.declared.streams.Errors.{Errors}
-use Rattle.response.specs.declared.verdict.Verdict.{Verdict}
-use Rattle.response.specs.declared.verdict.Verdict.TheVariants.{Done, ShortOutput, BadStream, Late}
+use Rattle.response.specs.Verdicts.{Verdict, Done, ShortOutput, BadStream, Late}
 use Rattle.response.specs.Streams.{at, Legal}
 use Rattle.response.specs.Waiting.{demand}
 

@@ -1,10 +1,10 @@
 -- What is said of a list of streams, and what is written for it.
-use Rattle.std.specs.Prelude.{◌≡◌, ℕ, suc, ◌*◌, Bool, cond, not, List, [], ◌∷◌, length, ltb}
+use Rattle.std.specs.Prelude.{◌≡◌, ℕ, suc, ◌*◌, Bool, cond, not, List, [], ◌∷◌, length, ltb, Result}
 use Rattle.wire.specs.Delivered.{over}
 use Rattle.response.specs.declared.streams.StreamRecord.{StreamRecord}
 use Rattle.response.specs.declared.streams.Errors.{Errors}
-use Rattle.response.specs.declared.verdict.Verdict.{Verdict}
-use Rattle.response.specs.declared.verdict.Verdict.TheVariants.{Done, ShortOutput, BadStream, Late}
+use Rattle.response.specs.declared.refusal.Refusal.{Refusal}
+use Rattle.response.specs.Verdicts.{Verdict, Done, ShortOutput, BadStream, Late, verdict_of}
 use Rattle.response.specs.Streams.{legal}
 use Rattle.response.specs.Waiting.{timely, waiting, response}
 
@@ -43,6 +43,6 @@ unfoldable pub written : List StreamRecord → Errors → (room : ℕ) → List 
 written streams errors room = if_done (verdict streams errors room) (times streams streams errors)
 
 -- what is answered for a list of streams, and what is then in the lent output
-pub record Answers (streams : List StreamRecord) (errors : Errors) (out : List ℕ) (answer : Verdict) (after : List ℕ) : Type 0 where
-  pub says : answer ≡ verdict streams errors (length out)
+pub record Answers (streams : List StreamRecord) (errors : Errors) (out : List ℕ) (answer : Result Unit Refusal) (after : List ℕ) : Type 0 where
+  pub says : verdict_of answer ≡ verdict streams errors (length out)
   pub leaves : after ≡ over (written streams errors (length out)) out

@@ -1,5 +1,6 @@
 -- The stream records and the errors that are within the limits.
 use Rattle.std.specs.Prelude.{◌≢◌, ℕ, ◌≤◌, ◌<◌, Bool, true, not, ◌&&◌, List, [], ◌∷◌, length, get_or, eqb, leb}
+use Rattle.std.specs.List.{list_all}
 use Rattle.wire.specs.Settings.{Between}
 use Rattle.response.specs.declared.streams.StreamRecord.{StreamRecord}
 use Rattle.response.specs.declared.streams.Errors.{Errors}
@@ -31,8 +32,7 @@ legal_errors e = leb e.n most_errors && in_range e.period && leb e.inaccessibili
 
 -- no record of the list has this priority
 unfoldable pub unused : (priority : ℕ) → List StreamRecord → Bool
-unused p [] = true
-unused p (j ∷ streams) = not (eqb p j.priority) && unused p streams
+unused p streams = list_all (λ (j : StreamRecord). not (eqb p j.priority)) streams
 
 -- every number in range, and all priorities different
 unfoldable pub legal_records : List StreamRecord → Bool

@@ -3,10 +3,11 @@
 // bit times with the bit as 1.
 #![tactic(auto)]
 
+mod claim;
 pub mod lent;
+mod load;
 mod recurrence;
+pub mod refusal;
 mod sheet;
 pub mod streams;
-mod table;
-pub mod verdict;
 mod waiting;

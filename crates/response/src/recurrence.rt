@@ -4,97 +4,37 @@
 //
 // It goes up from a number that no solution lies below. The right side at such a number is another,
 // since it never falls as w grows; a second bound, `reach`, makes the steps long.
-ghost use Rattle.std.specs.Prelude.{◌≡◌, ℕ, ◌+◌, ◌*◌, ◌≤◌, max};
+ghost use Rattle.std.specs.Prelude.{◌≡◌, ◌≤◌, length};
 ghost use Rattle.response.specs.Streams.{most};
-ghost use Rattle.response.specs.Waiting.{ceiling, least_from};
-ghost use Rattle.response.specs.Recurrence.{claimed, asked, solves_with, Claim, Ready, ClaimedFrom, NoneBelow};
+ghost use Rattle.response.specs.Waiting.{least_from};
+ghost use Rattle.response.specs.Recurrence.{asked, solves_with, NoneBelow};
 
-// A stream list has at most 64 claims, and the errors are one more.
-pub const SIZE: usize = 65;
+use crate::claim::{Claim, WHOLE};
+use crate::streams::MOST_STREAMS;
 
-pub type Numbers = [u64; SIZE];
+// A list has at most 64 streams, and the errors are one claim more.
+pub(crate) const MOST_CLAIMS: usize = MOST_STREAMS + 1;
 
-fn ceil(a: u64, b: u64) -> u64
-    requires { (a ≤ 2 * most) × (1 ≤ b) × (b ≤ most) }
-    ensures { result ≡ ceiling a b }
+// What the claims take while a message waits for w.
+#[tactic(auto, unfolding(crate::specs::Recurrence::asked))]
+fn asked(claims: &[Claim], w: u64) -> u64
+    requires { (length claims.now ≤ MOST_CLAIMS) × (w ≤ most) }
+    ensures { result ≡ asked claims.now w }
 {
-    (a + (b - 1)) / b
-}
-
-// What one claim takes while a message waits for w.
-fn claimed(cost: u64, period: u64, lead: u64, w: u64) -> u64
-    requires { Claim cost period lead × (w ≤ most) }
-    ensures { result ≡ claimed cost period lead w }
-{
-    ceil(w + lead, period) * cost
-}
-
-// What the first n claims take.
-fn asked(costs: &Numbers, periods: &Numbers, leads: &Numbers, n: usize, w: u64) -> u64
-    requires { Ready costs.now periods.now leads.now n w }
-    ensures { result ≡ asked costs.now periods.now leads.now n w }
-{
-    let mut sum: u64 = 0;
-    let mut k = 0;
-    while k < n {
-        sum += claimed(costs[k], periods[k], leads[k], w);
-        k += 1;
-    }
-    sum
-}
-
-// Shares of the bus are counted in parts of this.
-const WHOLE: u64 = 4294967296;
-
-// What is asked from some waiting time on: so much whatever comes, and a share of the bus as long as
-// the waiting goes on.
-#[derive(Drop)]
-struct Part {
-    fixed: u64,
-    share: u64,
-}
-
-// A lower bound of what one claim takes from w on. Where it comes again before `ahead`, it is better
-// counted as a share of the bus.
-fn part_of(cost: u64, period: u64, lead: u64, w: u64, ahead: u64) -> Part
-    requires { Claim cost period lead × (w ≤ most) × (ahead ≤ 2000000000000000) }
-    ensures { ClaimedFrom cost period lead w result.fixed result.share }
-{
-    let times = ceil(w + lead, period);
-    if ahead + lead <= times * period {
-        return Part {
-            fixed: times * cost,
-            share: 0,
-        };
-    }
-    Part {
-        fixed: 0,
-        share: WHOLE * cost / period,
-    }
+    claims.iter().map(|claim| claim.claimed(w)).sum()
 }
 
 // A number that no solution from w on lies below, whatever `ahead` is; room, where there is none.
-fn reach(
-    costs: &Numbers,
-    periods: &Numbers,
-    leads: &Numbers,
-    n: usize,
-    blocking: u64,
-    w: u64,
-    ahead: u64,
-    room: u64,
-) -> u64
-    requires { Ready costs.now periods.now leads.now n w × (blocking ≤ most) × (ahead ≤ 2000000000000000) × (room ≤ most) }
-    ensures { NoneBelow costs.now periods.now leads.now n blocking w result }
+fn reach(claims: &[Claim], blocking: u64, w: u64, ahead: u64, room: u64) -> u64
+    requires { (length claims.now ≤ MOST_CLAIMS) × (w ≤ most) × (blocking ≤ most) × (ahead ≤ 2000000000000000) × (room ≤ most) }
+    ensures { NoneBelow claims.now blocking w result }
 {
     let mut fixed = blocking;
-    let mut share: u64 = 0;
-    let mut k = 0;
-    while k < n {
-        let part = part_of(costs[k], periods[k], leads[k], w, ahead);
+    let mut share = 0;
+    for claim in claims {
+        let part = claim.part(w, ahead);
         fixed += part.fixed;
         share += part.share;
-        k += 1;
     }
     if room <= fixed {
         return fixed;
@@ -105,12 +45,6 @@ fn reach(
     (WHOLE * fixed + share) / (WHOLE - share)
 }
 
-pub(crate) fn larger(a: u64, b: u64) -> u64
-    ensures { result ≡ max a b }
-{
-    if a < b { b } else { a }
-}
-
 // No claim is left out of what comes again before this.
 const ALL: u64 = 4000000;
 
@@ -119,26 +53,21 @@ const ALL: u64 = 4000000;
 const STEPS: u64 = 8;
 
 // The least solution below room; room, where there is none.
-pub(crate) fn least_solution(
-    costs: &Numbers,
-    periods: &Numbers,
-    leads: &Numbers,
-    n: usize,
-    blocking: u64,
-    room: u64,
-) -> u64
-    requires { Ready costs.now periods.now leads.now n 0 × (blocking ≤ most) × (room ≤ most) }
-    ensures { result ≡ least_from 0 room (solves_with costs.now periods.now leads.now n blocking) }
+#[tactic(auto, using(crate::proofs::Claims::asked_most, crate::proofs::Rounds::goes_on, crate::proofs::Rounds::ends_at, crate::proofs::Rounds::ends_past))]
+pub(crate) fn least_solution(claims: &[Claim], blocking: u64, room: u64) -> u64
+    requires { (length claims.now ≤ MOST_CLAIMS) × (blocking ≤ most) × (room ≤ most) }
+    ensures { result ≡ least_from 0 room (solves_with claims.now blocking) }
 {
-    let mut w = reach(costs, periods, leads, n, blocking, 0, ALL, room);
+    let mut w = reach(claims, blocking, 0, ALL, room);
+    // Goes up to the solution, and counts nothing.
     while w < room {
-        let next = blocking + asked(costs, periods, leads, n, w);
+        let next = blocking + asked(claims, w);
         if next <= w {
             return w;
         }
         let ahead = w + STEPS * (next - w);
-        let far = reach(costs, periods, leads, n, blocking, w, ahead, room);
-        w = larger(next, far);
+        let far = reach(claims, blocking, w, ahead, room);
+        w = next.max(far);
     }
     room
 }

@@ -1,100 +1,92 @@
-// The waiting time of one stream among those of a table.
-ghost use Rattle.std.specs.Prelude.{◌≡◌, cond, true, ◌+◌, ◌≤◌, take};
-ghost use Rattle.response.specs.Streams.{legal_record, legal_errors, legal_records};
+// The waiting time of one stream among those of a list.
+ghost use Rattle.std.specs.Prelude.{◌≡◌, ◌+◌, ◌*◌, ◌≤◌, length, take};
+ghost use Rattle.response.specs.Streams.{LegalRecord, LegalErrors};
 ghost use Rattle.response.specs.Waiting.{blocking, timely, waiting};
-ghost use Rattle.response.specs.Recurrence.{ClaimsOf};
+ghost use Rattle.response.specs.Recurrence.{cost_before, ClaimsOf};
 
-use crate::recurrence::{Numbers, SIZE, larger, least_solution};
+use crate::claim::Claim;
+use crate::load::Load;
+use crate::recurrence::{MOST_CLAIMS, least_solution};
 use crate::streams::{Errors, StreamRecord};
-use crate::table::Table;
-
-fn wide(n: u32) -> u64
-    ensures { result ≡ n }
-{
-    n as u64
-}
-
-// c where the test is true, and else 0.
-fn cost_if(test: bool, c: u32) -> u64
-    ensures { result ≡ cond test c 0 }
-{
-    if test { wide(c) } else { 0 }
-}
 
 // The longest message of the streams that s goes before.
-fn blocking(table: Table, len: usize, s: StreamRecord) -> u64
-    requires { len ≤ 64 }
-    ensures { result ≡ blocking (take len table.streams) s }
+#[tactic(auto, using(crate::proofs::Listed::blocking_from, crate::proofs::Listed::blocking_past))]
+fn blocking(streams: &[StreamRecord], s: StreamRecord) -> u64
+    ensures { result ≡ blocking streams.now s }
 {
-    let mut longest: u64 = 0;
-    let mut k = len;
-    while 0 < k {
-        k -= 1;
-        let j = table.streams[k];
-        longest = larger(cost_if(s.priority < j.priority, j.c), longest);
+    // By a loop: written as `filter`, `map` and `max`, the proof does not follow the greatest.
+    let mut longest = 0;
+    for j in streams {
+        if s.priority < j.priority {
+            longest = longest.max(j.c);
+        }
     }
-    longest
+    u64::from(longest)
 }
 
 // How many waiting times keep the deadline of s.
 pub(crate) fn timely(s: StreamRecord) -> u64
     ensures { result ≡ timely s }
 {
-    let end = wide(s.d) + 1;
-    let c = wide(s.c);
-    if c <= end { end - c } else { 0 }
+    (u64::from(s.d) + 1).saturating_sub(u64::from(s.c))
 }
 
-// Claims on the bus, as the recurrence takes them.
-#[derive(Drop)]
-struct Claims {
-    costs: Numbers,
-    periods: Numbers,
-    leads: Numbers,
-}
-
-// What claims the bus before s: claim k is that of stream k, which costs nothing where it does not
-// go before s, and the last one is that of the errors.
-fn claims_of(table: Table, len: usize, s: StreamRecord, errors: Errors) -> Claims
-    requires { (len ≤ 64) × (legal_records (take len table.streams) ≡ true) × (legal_record s ≡ true) × (legal_errors errors ≡ true) }
-    ensures { ClaimsOf (take len table.streams) errors s result.costs result.periods result.leads (len + 1) }
+// What stream j claims of the bus before s: nothing where it does not go before it.
+#[tactic(auto, using(crate::proofs::Gathering::stream_claim))]
+fn claim_of(j: StreamRecord, s: StreamRecord) -> Claim
+    requires { LegalRecord j }
+    ensures { (result.cost ≡ cost_before s j) × (result.period ≡ j.t) × (result.lead ≡ 1) }
 {
-    let mut costs: Numbers = [0; SIZE];
-    let mut periods: Numbers = [1; SIZE];
-    let mut leads: Numbers = [1; SIZE];
-    let mut k = 0;
-    while k < len {
-        let j = table.streams[k];
-        costs[k] = cost_if(j.priority < s.priority, j.c);
-        periods[k] = wide(j.t);
-        k += 1;
+    Claim {
+        cost: if j.priority < s.priority {
+            u64::from(j.c)
+        } else {
+            0
+        },
+        period: u64::from(j.t),
+        lead: 1,
     }
-    costs[len] = wide(errors.n) * wide(errors.inaccessibility);
-    periods[len] = wide(errors.period);
-    leads[len] = wide(s.c);
-    Claims {
-        costs,
-        periods,
-        leads,
+}
+
+// What the errors claim of it.
+#[tactic(auto, using(crate::proofs::Gathering::errors_most))]
+fn claim_of_errors(errors: Errors, s: StreamRecord) -> Claim
+    requires { LegalErrors errors × LegalRecord s }
+    ensures { (result.cost ≡ errors.n * errors.inaccessibility) × (result.period ≡ errors.period) × (result.lead ≡ s.c) }
+{
+    Claim {
+        cost: u64::from(errors.n) * u64::from(errors.inaccessibility),
+        period: u64::from(errors.period),
+        lead: u64::from(s.c),
     }
+}
+
+// What claims the bus before s: claim k is that of stream k, and the last one is that of the errors. An array of the most that there
+// can be: no heap.
+#[tactic(auto, using(crate::proofs::Gathering::all_gathered))]
+fn claims_of(load: Load, s: StreamRecord) -> [Claim; MOST_CLAIMS]
+    requires { LegalRecord s }
+    ensures { ClaimsOf load.entry.streams.now load.entry.errors s (take (length load.entry.streams.now + 1) result) }
+{
+    let mut claims = [Claim::NONE; MOST_CLAIMS];
+    for (k, j) in load.streams.iter().enumerate() {
+        claims[k] = claim_of(*j, s);
+    }
+    claims[load.streams.len()] = claim_of_errors(load.errors, s);
+    claims
 }
 
 // The least waiting time that satisfies the equation and keeps the deadline of s; where there is
 // none, how many waiting times keep it.
-pub(crate) fn waiting(table: Table, len: usize, s: StreamRecord, errors: Errors) -> u64
-    requires { (len ≤ 64) × (legal_records (take len table.streams) ≡ true) × (legal_record s ≡ true) × (legal_errors errors ≡ true) }
-    ensures { result ≡ waiting (take len table.streams) errors s }
+#[tactic(auto, using(crate::proofs::Gathering::same_equation), unfolding(crate::specs::Waiting::waiting))]
+pub(crate) fn waiting(load: Load, s: StreamRecord) -> u64
+    requires { LegalRecord s }
+    ensures { result ≡ waiting load.entry.streams.now load.entry.errors s }
 {
-    let claims = claims_of(table, len, s, errors);
-    let costs = claims.costs;
-    let periods = claims.periods;
-    let leads = claims.leads;
+    let claims = claims_of(load, s);
     least_solution(
-        &costs,
-        &periods,
-        &leads,
-        len + 1,
-        blocking(table, len, s),
+        &claims[..=load.streams.len()],
+        blocking(load.streams, s),
         timely(s),
     )
 }

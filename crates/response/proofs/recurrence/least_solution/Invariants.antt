@@ -4,7 +4,7 @@ use Rattle.response.specs.Recurrence.{NoneBelow}
 use Rattle.response.proofs.recurrence.least_solution.Given as goal
 
 abbrev pub invariant-loop-w : goal.invariant-loop-w
-invariant-loop-w l = NoneBelow l.costs l.periods l.leads l.n l.blocking 0 l.w
+invariant-loop-w l = NoneBelow l.claims l.blocking 0 l.w
 
 abbrev pub decreases-loop-w : goal.decreases-loop-w
 decreases-loop-w l = l.room - l.w

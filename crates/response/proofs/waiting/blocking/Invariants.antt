@@ -1,12 +1,9 @@
--- What the loop of `blocking` keeps: the longest is that of the streams from k on.
-use Rattle.response.specs.Waiting.{blocking}
-use lib.ListN.{take, drop}
-use Prim.Native.Nat.{◌≤◌}
+-- What the loop of `blocking` keeps: the longest so far, or one of those that are left.
+use lib.ListN.{drop}
+use Prim.Native.Nat.{max}
 use mathlib.Core.Path.{◌≡◌}
+use Rattle.response.specs.Waiting.{blocking}
 use Rattle.response.proofs.waiting.blocking.Given as goal
 
-abbrev pub invariant-loop-k : goal.invariant-loop-k
-invariant-loop-k l = (l.k ≤ l.len) × (l.longest ≡ blocking (drop l.k (take l.len l.table.streams)) l.s)
-
-abbrev pub decreases-loop-k : goal.decreases-loop-k
-decreases-loop-k l = l.k
+abbrev pub invariant-loop-j : goal.invariant-loop-j
+invariant-loop-j l = max l.longest (blocking (drop l.j-index l.streams) l.s) ≡ blocking l.streams l.s
