@@ -11,9 +11,13 @@ use Rattle.wire.specs.Frames.{max_payload}
 use Rattle.wire.specs.Delivered.{following, is_cut}
 use Rattle.wire.proofs.Reading.{neither}
 use Rattle.heard.specs.declared.reply.Reply.TheVariants.{CutRecord, UnknownKind, BadRecordLength}
-use Rattle.heard.specs.declared.reading.HeardAt.{HeardAt}
+use Rattle.std.specs.Prelude.{Result, Ok, Err}
+use Rattle.heard.specs.declared.reply.Reply as code
+use Rattle.heard.specs.declared.reading.HeardAt as reader
 use Rattle.heard.specs.Kinds.{count_bytes, is_known, head_length}
-use Rattle.heard.specs.Reading.{bad_length, found, refused, kind_at, count_end, head_at, heard_at}
+use Rattle.heard.specs.Answers.{was_told}
+use Rattle.heard.proofs.Numbers.{kind_there}
+use Rattle.heard.specs.Reading.{HeardAt, bad_length, found, refused, kind_at, count_end, head_at, heard_at}
 
 pub record Passed (bytes : List ℕ) (at : ℕ) : Type 0 where
   pub body : 2 + following bytes at ≤ length bytes - at
@@ -57,3 +61,32 @@ pub within : (bytes : List ℕ) (at : ℕ) (r : HeardAt) → r ≡ heard_at byte
 within bytes at r e ok =
     let p = passed bytes at (ap (λ (x : HeardAt). x.ok) (sym e) ∙ ok) in
     rw (e, p.is) (record { short = omega arith; next = refl; inside = omega arith; ahead = omega arith })
+
+-- the reader has an answer everywhere
+module _ (bytes : List ℕ) (at : ℕ) where
+  abbrev pub Answer : HeardAt → Type 0
+  Answer h = (r : Result reader.HeardAt code.Reply) × (was_told at r ≡ h)
+
+  some_by : (cut known bad : Bool) → is_known (kind_at bytes at) ≡ known → Answer (answer_by bytes at cut known bad)
+  some_by true known bad k = (Err CutRecord, refl)
+  some_by false false bad k = (Err UnknownKind, refl)
+  some_by false true true k = (Err BadRecordLength, refl)
+  some_by false true false k =
+      let (kind, is) = kind_there (kind_at bytes at) k in
+      let h = head_at bytes at in
+      let payload : ℕ = 5 + count_end bytes at in
+      let n : ℕ = following bytes at - head_length (kind_at bytes at) in
+      (Ok (record { heard = record { kind = kind; count = h.count; id = h.id; dlc = h.dlc }; payload = payload; length = n; next = payload + n }), rw is refl)
+
+  pub some_answer : Answer (heard_at bytes at)
+  unfolding heard_at
+  some_answer = some_by (is_cut bytes at) (is_known (kind_at bytes at)) (bad_length (kind_at bytes at) (following bytes at)) refl
+
+  by_told : (r : Result reader.HeardAt code.Reply) → was_told at r ≡ heard_at bytes at → (heard_at bytes at).ok ≡ false
+      → (reply : code.Reply) × (refused reply at ≡ heard_at bytes at)
+  by_told (Ok r) p bad = absurd (false≢true (sym bad ∙ ap (λ (x : HeardAt). x.ok) (sym p)))
+  by_told (Err reply) p bad = (reply, p)
+
+  -- what cannot be read is refused, and is where it was looked for
+  pub unread : (heard_at bytes at).ok ≡ false → (reply : code.Reply) × (refused reply at ≡ heard_at bytes at)
+  unread = let (r, p) = some_answer in by_told r p

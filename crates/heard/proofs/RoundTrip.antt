@@ -9,12 +9,10 @@ use lib.ListN.{length, get_or, take, drop, length-append}
 use lib.Seq.{take-append_seam, drop-append-add}
 use Rattle.wire.specs.Delivered.{little_endian, number_at, following}
 use Rattle.wire.proofs.Reading.{behind, number_behind, number_here}
-use Rattle.heard.specs.declared.reply.Reply.TheVariants.{Done}
-use Rattle.heard.specs.declared.record.Heard.{Heard}
-use Rattle.heard.specs.declared.reading.HeardAt.{HeardAt}
+use Rattle.heard.specs.Replies.{Done}
 use Rattle.heard.specs.Kinds.{count_bytes, head_length}
-use Rattle.heard.specs.Records.{record_of}
-use Rattle.heard.specs.Reading.{found, kind_at, head_at, heard_at}
+use Rattle.heard.specs.Records.{Heard, record_of}
+use Rattle.heard.specs.Reading.{HeardAt, found, kind_at, head_at, heard_at}
 use Rattle.heard.specs.Recordings.{Record, recording_of, stopped, read_from}
 use Rattle.heard.specs.RoundTrip.{Writable, AllWritable, EveryFrameWritable, RoundTrip, read_whole, RoundTripOfMany}
 use Rattle.heard.proofs.Numbers.{four_at_most}

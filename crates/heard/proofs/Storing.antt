@@ -1,30 +1,27 @@
 -- Bytes stored from a place on, one after the other.
-use mathlib.Core.Path.{◌≡◌, refl, ap, ◌∙◌}
-use mathlib.Core.List.{List, [], ◌∷◌, ◌++◌}
-use Prim.Native.Nat.{ℕ, zero, suc, ◌+◌, ◌-◌, ◌/◌, ◌%◌, ◌≤◌, ◌<◌}
+use mathlib.Core.Path.{◌≡◌, refl, sym, ap, ◌∙◌}
+use mathlib.Core.List.{List, [], ◌∷◌, ◌++◌, append_assoc}
+use Prim.Native.Nat.{ℕ, zero, suc, ◌+◌, ◌-◌, ◌/◌, ◌≤◌}
 use native.Mathlib.Nat.{zero-add, add-zero}
 use native.Mathlib.Omega.{arith}
-use lib.ListN.{length, get_or, set, drop, length-append}
-use lib.Seq.{sets, sets-eq, drop-cons}
+use borrow.Rule.Slice.PartMut.{put_mid}
+use Rattle.std.proofs.lemmas.Slice.{put_mid-paste}
+use Rattle.std.proofs.lemmas.List.Edits.{paste_all}
+use lib.ListN.{length, set, take, drop, length-append}
+use lib.Seq.{sets, sets-eq}
 use Rattle.wire.specs.Delivered.{little_endian, over}
-use Rattle.heard.specs.declared.record.Heard.{Heard}
 use Rattle.heard.specs.Kinds.{count_bytes}
-use Rattle.heard.specs.Records.{record_of}
+use Rattle.heard.specs.Records.{Heard, record_of}
 
--- what is left to store, after one byte
-pub number_goes_on : (out : List ℕ) (at i width n : ℕ) → i < width
-    → sets out (at + i) (little_endian (width - i) n) ≡ sets (set out (at + i) (n % 256)) (at + (i + 1)) (little_endian (width - (i + 1)) (n / 256))
-number_goes_on out at i width n more =
-    let longer : width - i ≡ suc (width - (i + 1)) = omega arith in
-    let next : suc (at + i) ≡ at + (i + 1) = omega arith in
-    rw longer (ap (λ (k : ℕ). sets (set out (at + i) (n % 256)) k (little_endian (width - (i + 1)) (n / 256))) next)
-
-pub bytes_go_on : (out bytes : List ℕ) (at i : ℕ) → i < length bytes
-    → sets out (at + i) (drop i bytes) ≡ sets (set out (at + i) (get_or bytes i 0)) (at + (i + 1)) (drop (i + 1) bytes)
-bytes_go_on out bytes at i more =
-    let next : suc (at + i) ≡ at + (i + 1) = omega arith in
-    let one : suc i ≡ i + 1 = omega arith in
-    rw (drop-cons bytes i 0 more) (ap (λ (k : ℕ). sets (set out (at + i) (get_or bytes i 0)) k (drop (suc i) bytes)) next ∙ rw one)
+-- a part of the output that was written over, from a place on
+pub stored_part : (out part bytes : List ℕ) (at width : ℕ) → part ≡ bytes → width ≡ length bytes → at + width ≤ length out
+    → put_mid at (at + width - at) out part ≡ sets out at bytes
+stored_part out part bytes at width e long room =
+    let long' : length bytes ≡ width = omega arith in
+    let so : at + width - at ≡ width = omega arith in
+    rw (so, e) (put_mid-paste at width out bytes bytes (length bytes) refl long' refl ∙ paste_all out at bytes (length bytes) refl
+    ∙ sym (append_assoc (take at out) bytes _)
+    ∙ sym (sets-eq bytes out at (omega arith)))
 
 -- what is stored right behind other bytes is stored with them
 pub stored_behind : (out before bytes : List ℕ) (at next : ℕ) → next ≡ at + length before

@@ -8,10 +8,10 @@ use lib.ListN.{length}
 use lib.Dec.{ltb}
 use Rattle.wire.specs.Frames.{max_payload}
 use Rattle.wire.specs.Delivered.{following}
-use Rattle.heard.specs.declared.reply.Reply.TheVariants.{Done, ShortOutput, CutRecord, UnknownKind, BadRecordLength}
-use Rattle.heard.specs.declared.record.Heard.{Heard}
+use Rattle.heard.specs.declared.reply.Reply.TheVariants.{ShortOutput, CutRecord, UnknownKind, BadRecordLength}
+use Rattle.heard.specs.Replies.{Done}
 use Rattle.heard.specs.Kinds.{count_bytes, head_length}
-use Rattle.heard.specs.Records.{record_of}
+use Rattle.heard.specs.Records.{Heard, record_of}
 use Rattle.heard.specs.Reading.{found, refused, kind_at, count_end, head_at, heard_at}
 use Rattle.heard.specs.Writing.{not_written, writing}
 

@@ -13,10 +13,9 @@ use Rattle.wire.specs.Delivered.{number_at, following, is_cut}
 use Rattle.wire.proofs.Reading.{neither}
 use Rattle.wire.proofs.Reading.{behind, number_behind}
 use Rattle.heard.specs.declared.reply.Reply.TheVariants.{CutRecord}
-use Rattle.heard.specs.declared.reading.HeardAt.{HeardAt}
-use Rattle.heard.specs.Replies.{number_of}
+use Rattle.heard.specs.Replies.{Refused, number_of}
 use Rattle.heard.specs.Kinds.{count_bytes, is_known, head_length}
-use Rattle.heard.specs.Reading.{bad_length, kind_at, count_end, head_at, heard_at}
+use Rattle.heard.specs.Reading.{HeardAt, bad_length, kind_at, count_end, head_at, heard_at}
 use Rattle.heard.specs.Windows.{SameAnswer, WindowAnswers, EnoughIsNotCut}
 use Rattle.heard.proofs.Passed.{Passed, passed, answer_by}
 
@@ -142,20 +141,20 @@ module _ (gone window beyond : List ℕ) where
 module _ (bytes : List ℕ) (at : ℕ) where
   by_cut : (cut : Bool) → is_cut bytes at ≡ cut
       → heard_at bytes at ≡ answer_by bytes at cut (is_known (kind_at bytes at)) (bad_length (kind_at bytes at) (following bytes at))
-      → (heard_at bytes at).reply ≢ CutRecord → is_cut bytes at ≡ false
+      → (heard_at bytes at).reply ≢ Refused CutRecord → is_cut bytes at ≡ false
   by_cut true c e other = absurd (other (ap (λ (r : HeardAt). r.reply) e))
   by_cut false c e other = c
 
-  not_cut : (heard_at bytes at).reply ≢ CutRecord → is_cut bytes at ≡ false
+  not_cut : (heard_at bytes at).reply ≢ Refused CutRecord → is_cut bytes at ≡ false
   unfolding heard_at
   not_cut = by_cut (is_cut bytes at) refl refl
 
-  told : (known bad : Bool) → heard_at bytes at ≡ answer_by bytes at false known bad → (heard_at bytes at).reply ≢ CutRecord
+  told : (known bad : Bool) → heard_at bytes at ≡ answer_by bytes at false known bad → (heard_at bytes at).reply ≢ Refused CutRecord
   told false bad e cut = omega (arith, ap number_of (sym (ap (λ (r : HeardAt). r.reply) e) ∙ cut))
   told true true e cut = omega (arith, ap number_of (sym (ap (λ (r : HeardAt). r.reply) e) ∙ cut))
   told true false e cut = omega (arith, ap number_of (sym (ap (λ (r : HeardAt). r.reply) e) ∙ cut))
 
-  not_told : is_cut bytes at ≡ false → (heard_at bytes at).reply ≢ CutRecord
+  not_told : is_cut bytes at ≡ false → (heard_at bytes at).reply ≢ Refused CutRecord
   unfolding heard_at
   not_told c = told (is_known (kind_at bytes at)) (bad_length (kind_at bytes at) (following bytes at)) (rw c)
 

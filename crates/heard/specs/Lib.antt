@@ -4,6 +4,7 @@ pub mod Kinds
 pub mod Records
 pub mod Reading
 pub mod Writing
+pub mod Answers
 pub mod Recordings
 pub mod RoundTrip
 pub mod Windows

@@ -2,11 +2,22 @@
 use Rattle.std.specs.Prelude.{ℕ, ◌+◌, ◌-◌, Bool, true, false, cond, not, ◌||◌, List, get_or, ltb}
 use Rattle.wire.specs.Frames.{max_payload}
 use Rattle.wire.specs.Delivered.{number_at, following, is_cut}
-use Rattle.heard.specs.declared.reply.Reply.{Reply}
-use Rattle.heard.specs.declared.reply.Reply.TheVariants.{Done, CutRecord, UnknownKind, BadRecordLength}
-use Rattle.heard.specs.declared.record.Heard.{Heard}
-use Rattle.heard.specs.declared.reading.HeardAt.{HeardAt}
+use Rattle.heard.specs.declared.reply.Reply as code
+use Rattle.heard.specs.declared.reply.Reply.TheVariants.{CutRecord, UnknownKind, BadRecordLength}
+use Rattle.heard.specs.Replies.{Reply, Done, Refused}
 use Rattle.heard.specs.Kinds.{count_bytes, is_known, head_length}
+use Rattle.heard.specs.Records.{Heard}
+
+-- the record, or why there is none: then every number but `next` is 0
+pub record HeardAt : Type 0 where
+  pub ok : Bool
+  pub reply : Reply
+  pub heard : Heard
+  -- where the payload starts, and how long it is
+  pub payload : ℕ
+  pub length : ℕ
+  -- where the record ends and the next may start; of a record at fault, where it starts itself
+  pub next : ℕ
 
 -- no payload of at most eight bytes gives this length
 abbrev pub bad_length : (kind n : ℕ) → Bool
@@ -17,11 +28,11 @@ abbrev pub found : Heard → (payload length : ℕ) → HeardAt
 found h payload length = record { ok = true; reply = Done; heard = h; payload = payload; length = length; next = payload + length }
 
 -- reading does not go past a record at fault
-abbrev pub refused : Reply → (at : ℕ) → HeardAt
+abbrev pub refused : code.Reply → (at : ℕ) → HeardAt
 refused reply at =
     record {
       ok = false;
-      reply = reply;
+      reply = Refused reply;
       heard = record { kind = 0; count = 0; id = record { 0 = 0 }; dlc = 0 };
       payload = 0;
       length = 0;

@@ -1,11 +1,8 @@
 -- Recordings: heard records one after the other.
 use Rattle.std.specs.Prelude.{ℕ, zero, suc, cond, List, [], ◌∷◌, ◌++◌, length, take, drop, leb}
-use Rattle.heard.specs.declared.reply.Reply.{Reply}
-use Rattle.heard.specs.declared.reply.Reply.TheVariants.{Done}
-use Rattle.heard.specs.declared.record.Heard.{Heard}
-use Rattle.heard.specs.declared.reading.HeardAt.{HeardAt}
-use Rattle.heard.specs.Records.{record_of}
-use Rattle.heard.specs.Reading.{heard_at}
+use Rattle.heard.specs.Replies.{Reply, Done}
+use Rattle.heard.specs.Records.{Heard, record_of}
+use Rattle.heard.specs.Reading.{HeardAt, heard_at}
 
 -- a record with its payload
 abbrev pub Record : Type 0

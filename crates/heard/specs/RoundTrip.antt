@@ -1,15 +1,16 @@
 -- Reading gives back what was written: one record wherever it stands, a whole recording, and what calls of the writer left to calls of the reader.
-use Rattle.std.specs.Prelude.{ℕ, ◌+◌, ◌^◌, ◌≤◌, ◌<◌, ◌≡◌, true, false, List, [], ◌∷◌, ◌++◌, length, take, drop}
+use Rattle.std.specs.Prelude.{ℕ, ◌+◌, ◌^◌, ◌≤◌, ◌<◌, ◌≡◌, true, List, [], ◌∷◌, ◌++◌, length, take, drop, Result, Ok, Err}
 use Rattle.wire.specs.declared.ids.BusId.{BusId}
 use Rattle.wire.specs.Frames.{max_payload}
 use Rattle.wire.specs.Delivered.{over}
-use Rattle.heard.specs.declared.reply.Reply.TheVariants.{Done}
-use Rattle.heard.specs.declared.reading.HeardAt.{HeardAt}
-use Rattle.heard.specs.declared.writing.Written.{Written}
+use Rattle.heard.specs.declared.reply.Reply as code
+use Rattle.heard.specs.declared.reading.HeardAt as reader
+use Rattle.heard.specs.Replies.{Done, Refused}
 use Rattle.heard.specs.Kinds.{count_bytes}
 use Rattle.heard.specs.Records.{at_counter, record_of}
 use Rattle.heard.specs.Reading.{heard_at}
-use Rattle.heard.specs.Writing.{writing, as_written}
+use Rattle.heard.specs.Writing.{writing}
+use Rattle.heard.specs.Answers.{as_written, was_read, was_told}
 use Rattle.heard.specs.Recordings.{Record, recording_of, Recording, stopped, behind, record_in, recording_in}
 
 -- of a known kind; kind, count and bus identifier have room in their bytes; and the payload has at most eight
@@ -55,26 +56,26 @@ RoundTripOfMany = (records : List Record) → AllWritable records → recording_
 
 -- ── the calls ──
 -- what `write_heard` promises of its answer and of the output that it leaves, and `heard_at` of its answer
-abbrev pub WriterPromises : Record → (output : List ℕ) → Written → (left : List ℕ) → Type 0
+abbrev pub WriterPromises : Record → (output : List ℕ) → Result ℕ code.Reply → (left : List ℕ) → Type 0
 WriterPromises r output w left =
     (w ≡ as_written (writing r.0 r.1 output)) × (left ≡ over (writing r.0 r.1 output).bytes output)
 
-abbrev pub ReaderPromises : (bytes : List ℕ) → (at : ℕ) → HeardAt → Type 0
-ReaderPromises bytes at r = r ≡ heard_at bytes at
+abbrev pub ReaderPromises : (bytes : List ℕ) → (at : ℕ) → Result reader.HeardAt code.Reply → Type 0
+ReaderPromises bytes at r = was_told at r ≡ heard_at bytes at
 
--- calls of the writer, all answered Done, each into the part of the output that was still free: what they left, and how many bytes they wrote
+-- calls of the writer, none of them refused, each into the part of the output that was still free: what they left, and how many bytes they wrote
 pub data WrittenBy : (output : List ℕ) → List Record → (left : List ℕ) → (written : ℕ) → Type 0 where
   none_written : {output : List ℕ} → WrittenBy output [] output 0
-  one_written : {output rest : List ℕ} {records : List Record} {n : ℕ} (r : Record) (w : Written) (left : List ℕ)
-      → WriterPromises r output w left → w.reply ≡ Done → WrittenBy (drop w.written left) records rest n
-      → WrittenBy output (r ∷ records) (take w.written left ++ rest) (w.written + n)
+  one_written : {output rest : List ℕ} {records : List Record} {n : ℕ} (r : Record) (written : ℕ) (left : List ℕ)
+      → WriterPromises r output (Ok written) left → WrittenBy (drop written left) records rest n
+      → WrittenBy output (r ∷ records) (take written left ++ rest) (written + n)
 
 -- calls of the reader from a place on, each where the one before said, to the end of the bytes or to the first record at fault
 pub data ReadBy (bytes : List ℕ) : (at : ℕ) → Recording → Type 0 where
   at_end : {at : ℕ} → length bytes ≤ at → ReadBy bytes at (stopped Done at)
-  at_fault : {at : ℕ} (r : HeardAt) → at < length bytes → ReaderPromises bytes at r → r.ok ≡ false → ReadBy bytes at (stopped r.reply r.next)
-  one_read : {at : ℕ} {rest : Recording} (r : HeardAt) → at < length bytes → ReaderPromises bytes at r → r.ok ≡ true → ReadBy bytes r.next rest
-      → ReadBy bytes at (behind (record_in bytes r) rest)
+  at_fault : {at : ℕ} (reply : code.Reply) → at < length bytes → ReaderPromises bytes at (Err reply) → ReadBy bytes at (stopped (Refused reply) at)
+  one_read : {at : ℕ} {rest : Recording} (r : reader.HeardAt) → at < length bytes → ReaderPromises bytes at (Ok r) → ReadBy bytes r.next rest
+      → ReadBy bytes at (behind (record_in bytes (was_read r)) rest)
 
 -- THE CALLS: what the one wrote, the other reads
 abbrev pub RoundTripOfCalls : Type 0

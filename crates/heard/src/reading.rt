@@ -1,60 +1,51 @@
 // Reading the heard record at a place of some bytes.
 ghost use Rattle.std.specs.Prelude.{◌≡◌, ◌+◌, ◌^◌, ◌≤◌, ◌<◌, length};
 ghost use Rattle.wire.specs.Delivered.{number_at};
-ghost use Rattle.heard.specs.Reading.{refused, heard_at};
+ghost use Rattle.heard.specs.Reading.{heard_at};
+ghost use Rattle.heard.specs.Answers.{was_told};
 
-use crate::kind::count_bytes;
+use crate::kind::Kind;
 use crate::record::Heard;
 use crate::reply::Reply;
 use wire::frame::MAX_PAYLOAD;
 use wire::ids::BusId;
 
-// The record, or why there is none: then every number but `next` is 0.
-#[derive(Clone, Copy)]
+#[derive(Clone, Copy, Debug, PartialEq, Eq)]
 pub struct HeardAt {
-    pub ok: bool,
-    pub reply: Reply,
     pub heard: Heard,
     // Where the payload starts, and how long it is.
     pub payload: usize,
     pub length: usize,
-    // Where the record ends and the next may start; of a record at fault, where it starts itself.
+    // Where the record ends and the next may start.
     pub next: usize,
 }
 
-pub fn heard_at(bytes: &[u8], at: usize) -> HeardAt
-    ensures { result ≡ heard_at bytes.now at }
+// The record, or why there is none.
+pub fn heard_at(bytes: &[u8], at: usize) -> Result<HeardAt, Reply>
+    ensures { was_told at result ≡ heard_at bytes.now at }
 {
-    let size = bytes.len();
-    if size < at {
-        return refused(Reply::CutRecord, at);
-    }
-    let left = size - at;
+    let left = bytes.len().saturating_sub(at);
     if left < 4 {
-        return refused(Reply::CutRecord, at);
+        return Err(Reply::CutRecord);
     }
     let follow = number_at(bytes, at, 2) as usize;
     if left < 2 + follow {
-        return refused(Reply::CutRecord, at);
+        return Err(Reply::CutRecord);
     }
-    let kind = number_at(bytes, 2 + at, 2) as u16;
-    let width = count_bytes(kind);
-    if width < 1 {
-        return refused(Reply::UnknownKind, at);
-    }
+    let number = number_at(bytes, 2 + at, 2) as u16;
+    let kind = Kind::try_from(number)?;
+    let width = kind.count_bytes();
     let head = Heard::FIXED_LENGTH + width;
     if follow < head {
-        return refused(Reply::BadRecordLength, at);
+        return Err(Reply::BadRecordLength);
     }
     if follow > head + MAX_PAYLOAD {
-        return refused(Reply::BadRecordLength, at);
+        return Err(Reply::BadRecordLength);
     }
     let id = 4 + width + at;
     let payload = 5 + id;
     let length = follow - head;
-    HeardAt {
-        ok: true,
-        reply: Reply::Done,
+    Ok(HeardAt {
         heard: Heard {
             kind,
             count: number_at(bytes, 4 + at, width),
@@ -64,43 +55,15 @@ pub fn heard_at(bytes: &[u8], at: usize) -> HeardAt
         payload,
         length,
         next: payload + length,
-    }
+    })
 }
 
-fn refused(reply: Reply, at: usize) -> HeardAt
-    ensures { result ≡ refused reply at }
-{
-    HeardAt {
-        ok: false,
-        reply,
-        heard: Heard {
-            kind: 0,
-            count: 0,
-            id: BusId(0),
-            dlc: 0,
-        },
-        payload: 0,
-        length: 0,
-        next: at,
-    }
-}
-
-// The number that so many bytes hold from a place on, the lowest first.
+// The number that so many bytes hold from a place on, the lowest first. Kept beside the readers of wire: a record's kind says its count's width.
 fn number_at(bytes: &[u8], at: usize, width: usize) -> u32
     requires { (width ≤ 4) × (at + width ≤ length bytes.now) }
     ensures { (result ≡ number_at width bytes.now at) × (result < 256 ^ width) }
 {
-    let mut n: u32 = 0;
-    let mut i = width;
-    while 0 < i {
-        i -= 1;
-        n = 256 * n + wide(bytes[at + i]);
-    }
-    n
-}
-
-fn wide(x: u8) -> u32
-    ensures { (result ≡ x) × (result ≤ 255) }
-{
-    x as u32
+    let mut four = [0; 4];
+    four[..width].copy_from_slice(&bytes[at..at + width]);
+    u32::from_le_bytes(four)
 }

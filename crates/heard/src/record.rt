@@ -1,10 +1,11 @@
 // A heard record: when a frame was heard, and the frame.
+use crate::kind::Kind;
 use wire::ids::BusId;
 
 // What stands before the payload.
-#[derive(Clone, Copy)]
+#[derive(Clone, Copy, Debug, PartialEq, Eq)]
 pub struct Heard {
-    pub kind: u16,
+    pub kind: Kind,
     pub count: u32,
     pub id: BusId,
     pub dlc: u8,

@@ -1,8 +1,9 @@
 -- What a history of calls delivers: call by call, and nothing in a quiet stretch.
-use Rattle.std.proofs.Common.{◌≡◌, ℕ, zero, suc, ◌+◌, ◌-◌, ◌*◌, ◌/◌, ◌%◌, ◌<◌, ◌≤◌, Bool, true, false, ltb, List, [], ◌∷◌, ◌++◌, replicate, sym, refl, ap, ◌∙◌, append_assoc, arith, ltb-false, ltb-true}
+use Rattle.std.proofs.Common.{◌≡◌, ℕ, zero, suc, ◌+◌, ◌-◌, ◌*◌, ◌/◌, ◌%◌, ◌<◌, ◌≤◌, Bool, true, false, ltb, List, [], ◌∷◌, ◌++◌, replicate, sym, refl, ap, ◌∙◌}
+use Rattle.std.proofs.Common.{append_assoc, arith, ltb-false, ltb-true}
 use native.Mathlib.Nat.{div-add-mod}
 use lib.ListN.{replicate-append-replicate}
-use Rattle.heard.specs.declared.record.Heard.{Heard}
+use Rattle.heard.specs.Records.{Heard}
 use Rattle.heard.specs.Recordings.{Record}
 use Rattle.node.specs.declared.Node.{Node}
 use Rattle.node.specs.Clock.{period, unbounded}

@@ -1,12 +1,12 @@
 -- 64 bits are enough for the ticks and the offset of every recording of fewer than 2^48 bytes.
-use Rattle.std.proofs.Common.{◌≡◌, ℕ, zero, suc, ◌+◌, ◌*◌, ◌<◌, ◌≤◌, Bool, true, false, cond, eqb, leb, List, [], ◌∷◌, ◌++◌, map, length, sym, refl, ap, ◌∙◌, mod-eq_of_lt, arith}
+use Rattle.std.proofs.Common.{◌≡◌, ℕ, zero, suc, ◌+◌, ◌*◌, ◌<◌, ◌≤◌, Bool, true, false, cond, eqb, leb, List, [], ◌∷◌, ◌++◌, map, length, sym, refl, ◌∙◌}
+use Rattle.std.proofs.Common.{mod-eq_of_lt, arith}
 use Rattle.wire.specs.declared.ids.Stream.{Stream}
 use Rattle.wire.specs.declared.settings.Settings.{Settings}
 use Rattle.wire.specs.Replies as of_node
 use Rattle.wire.specs.Delivered.{messages_at}
-use Rattle.heard.specs.declared.record.Heard.{Heard}
-use Rattle.heard.specs.declared.reading.HeardAt.{HeardAt}
-use Rattle.heard.specs.declared.reply.Reply.TheVariants.{Done}
+use Rattle.heard.specs.Replies.{Done}
+use Rattle.heard.specs.Records.{Heard}
 use Rattle.heard.specs.Replies as of_reader
 use Rattle.heard.specs.Reading.{heard_at}
 use Rattle.heard.specs.Recordings.{Record, Recording, stopped, behind, record_in, read_from, recording_in}
@@ -25,7 +25,6 @@ use Rattle.playback.specs.Quiet.{ticks}
 use Rattle.playback.specs.Steps.{in64}
 use Rattle.playback.specs.Runs.{replayed_in64, ExactReplay}
 use Rattle.playback.proofs.Held.{ticked_slots, heard_held, set_up_held}
-use Rattle.playback.proofs.Steps.{unread}
 use Rattle.playback.proofs.Runs.{delivery64, every_replay}
 
 -- ── no delivery is later than this ──
@@ -87,14 +86,12 @@ few_records (suc most) bytes at = by (few_records most bytes (heard_at bytes at)
 
 fault_inside : {bytes : List ℕ} {at : ℕ} {rest : Recording} → ReadBy bytes at rest → fault_in rest ≤ length bytes
 fault_inside (at_end past) = omega arith
-fault_inside {bytes} {at} (at_fault r inside e bad) =
-    let here : r.next ≡ at = ap (λ (x : HeardAt). x.next) e ∙ (unread bytes at (ap (λ (x : HeardAt). x.ok) (sym e) ∙ bad)).1 in
-    by (eqb (of_reader.number_of r.reply) 0) here
+fault_inside {bytes} {at} (at_fault reply inside e) = by (eqb (of_reader.refusal_number reply) 0)
   where
-    by : (t : Bool) → r.next ≡ at → cond t 0 r.next ≤ length bytes
-    by true here = omega arith
-    by false here = omega arith
-fault_inside (one_read r inside e ok later) = fault_inside later
+    by : (t : Bool) → cond t 0 at ≤ length bytes
+    by true = omega arith
+    by false = omega arith
+fault_inside (one_read r inside e later) = fault_inside later
 
 -- ── the whole ──
 set_up_counter : (settings : List (Stream × Settings)) (n : Node) → (set_up_all settings n).node.counter ≡ n.counter

@@ -1,11 +1,11 @@
 -- A step of the code goes as the definition does: what it delivers, and what is left to replay then; and it gets nearer to the end.
-use Rattle.std.proofs.Common.{◌≡◌, ℕ, ◌+◌, ◌-◌, ◌<◌, ◌≤◌, true, ◌≢◌, ◌⊎◌, List, [], ◌∷◌, ◌++◌, length, sym, refl, ap, ◌∙◌, subst, inl, true≢false, append_assoc, add-zero, zero-add, arith, length-append}
+use Rattle.std.proofs.Common.{◌≡◌, ℕ, ◌+◌, ◌-◌, ◌<◌, ◌≤◌, true, ◌≢◌, ◌⊎◌, List, [], ◌∷◌, ◌++◌, length, sym, refl, ap, ◌∙◌, subst, inl, true≢false, append_assoc}
+use Rattle.std.proofs.Common.{add-zero, zero-add, arith, length-append}
 use native.Mathlib.Nat.{mod-add-mod}
 use lib.ListN.{replicate-append-replicate}
-use Rattle.heard.specs.declared.reading.HeardAt.{HeardAt}
-use Rattle.heard.specs.declared.reply.Reply.TheVariants.{Done, CutRecord}
-use Rattle.heard.specs.Replies.{number_of}
-use Rattle.heard.specs.Reading.{heard_at}
+use Rattle.heard.specs.declared.reply.Reply.TheVariants.{CutRecord}
+use Rattle.heard.specs.Replies.{Done, Refused, number_of}
+use Rattle.heard.specs.Reading.{HeardAt, heard_at}
 use Rattle.heard.specs.Recordings.{Record, Recording, behind, record_in}
 use Rattle.heard.specs.RoundTrip.{ReadBy, at_end, at_fault, one_read}
 use Rattle.heard.specs.Windows.{moved}
@@ -39,8 +39,8 @@ record Goes (recording : List ℕ) (at : ℕ) (rest : Recording) : Type 0 where
 goes : {recording : List ℕ} {at : ℕ} {rest : Recording} → ReadBy recording at rest → (heard_at recording at).ok ≡ true → Goes recording at rest
 goes {recording} {at} (at_end past) ok =
     let w = within recording at (heard_at recording at) refl ok in absurd (omega (arith, w.inside, w.ahead))
-goes {recording} {at} (at_fault r inside e bad) ok = absurd (true≢false (sym ok ∙ ap (λ (x : HeardAt). x.ok) (sym e) ∙ bad))
-goes {recording} {at} (one_read {rest = later} r inside e ok' reads) ok =
+goes {recording} {at} (at_fault reply inside e) ok = absurd (true≢false (sym ok ∙ ap (λ (x : HeardAt). x.ok) (sym e)))
+goes {recording} {at} (one_read {rest = later} r inside e reads) ok =
     record {
       later = later;
       is = ap (λ (x : HeardAt). behind (record_in recording x) later) e;
@@ -53,14 +53,14 @@ Answers window recording at =
     (heard_at recording at ≡ moved at (heard_at window 0)) × (record_in recording (heard_at recording at) ≡ record_in window (heard_at window 0))
 
 by_the_window : (gone window beyond recording : List ℕ) (at : ℕ) → gone ++ (window ++ beyond) ≡ recording → length gone ≡ at
-    → ((heard_at window 0).reply ≢ CutRecord) ⊎ (beyond ≡ []) → Answers window recording at
+    → ((heard_at window 0).reply ≢ Refused CutRecord) ⊎ (beyond ≡ []) → Answers window recording at
 by_the_window gone window beyond recording at all place tells =
     let a = window_answers gone window beyond 0 tells in
     let here : 0 + length gone ≡ length gone = zero-add (length gone) in
     rw (← all, ← place) (rw here at a.answer, rw here at a.record_in_window)
 
 pub in_the_window : {recording : List ℕ} {at : ℕ} (l : Lent recording at)
-    → ((heard_at l.window 0).reply ≢ CutRecord) ⊎ (l.beyond ≡ []) → Answers l.window recording at
+    → ((heard_at l.window 0).reply ≢ Refused CutRecord) ⊎ (l.beyond ≡ []) → Answers l.window recording at
 in_the_window {recording} {at} l = by_the_window l.gone l.window l.beyond recording at l.all l.place
 
 -- how much of the recording is left
@@ -69,7 +69,7 @@ what_is_left l =
     let size = ap length l.all in
     omega (arith, size, l.place, length-append l.gone (l.window ++ l.beyond), length-append l.window l.beyond)
 
-read_is_done : (window : List ℕ) → (heard_at window 0).ok ≡ true → (heard_at window 0).reply ≢ CutRecord
+read_is_done : (window : List ℕ) → (heard_at window 0).ok ≡ true → (heard_at window 0).reply ≢ Refused CutRecord
 read_is_done window ok cut =
     let done : (heard_at window 0).reply ≡ Done = ap (λ (r : HeardAt). r.reply) (passed window 0 ok).is in
     let n : ◌≡◌ {A = ℕ} 0 15 = ap number_of (sym done ∙ cut) in

@@ -1,5 +1,6 @@
 -- How many messages a node holds: none after set up, one more at most when a frame was heard, and fewer after the tick that ends the quiet.
-use Rattle.std.proofs.Common.{◌≡◌, ℕ, suc, ◌+◌, ◌-◌, ◌<◌, ◌≤◌, min, Bool, true, false, cond, ◌||◌, ltb, leb, ◌⊎◌, List, [], ◌∷◌, ◌++◌, map, length, refl, ap, ◌∙◌, subst, inl, inr, le_of_lt, arith, leb-false, leb-true}
+use Rattle.std.proofs.Common.{◌≡◌, ℕ, suc, ◌+◌, ◌-◌, ◌<◌, ◌≤◌, min, Bool, true, false, cond, ◌||◌, ltb, leb, ◌⊎◌, List, [], ◌∷◌, ◌++◌, map, length, refl, ap}
+use Rattle.std.proofs.Common.{◌∙◌, subst, inl, inr, le_of_lt, arith, leb-false, leb-true}
 use native.Mathlib.Nat.{min-eq_left, min-eq_right}
 use lib.ListN.{replicate-append-replicate}
 use Rattle.wire.specs.declared.ids.Stream.{Stream}

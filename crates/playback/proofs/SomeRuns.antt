@@ -1,9 +1,10 @@
 -- A step that is lent enough asks for no more; so there is a whole run for every settings and every recording.
-use Rattle.std.proofs.Common.{◌≡◌, ℕ, zero, suc, ◌+◌, ◌-◌, ◌≤◌, Bool, true, false, eqb, ◌⊎◌, List, [], ◌∷◌, ◌++◌, length, take, drop, sym, refl, ap, ◌∙◌, subst, inl, inr, true≢false, append-nil, arith, take-append-drop, length-take-le}
+use Rattle.std.proofs.Common.{◌≡◌, ℕ, zero, suc, ◌+◌, ◌-◌, ◌≤◌, Bool, true, false, ◌⊎◌, List, [], ◌∷◌, ◌++◌, length, take, drop, sym, refl, ap, ◌∙◌, subst, inl}
+use Rattle.std.proofs.Common.{inr, true≢false, append-nil, arith, take-append-drop, length-take-le}
 use Rattle.wire.specs.declared.ids.Stream.{Stream}
 use Rattle.wire.specs.declared.settings.Settings.{Settings}
-use Rattle.wire.specs.declared.reply.Reply as node_reply
-use Rattle.wire.specs.Replies as of_node
+use Rattle.std.specs.Prelude.{Ok, Err}
+use Rattle.wire.specs.Answers.{is_done}
 use Rattle.wire.specs.Delivered.{over, AreBytes}
 use Rattle.heard.specs.Recordings.{Recording, recording_in}
 use Rattle.heard.specs.RoundTrip.{ReadBy}
@@ -14,16 +15,14 @@ use Rattle.node.specs.declared.Node.{Node}
 use Rattle.node.specs.Nodes.{fresh}
 use Rattle.node.specs.Tick.{tick_room}
 use Rattle.playback.specs.declared.Playback.{Playback}
-use Rattle.playback.specs.declared.set_up.Prepared.{Prepared}
-use Rattle.playback.specs.declared.step.Way.TheVariants.{On, Over}
 use Rattle.playback.specs.declared.step.Stepped.{Stepped}
 use Rattle.playback.specs.Deliveries.{Delivery, room}
 use Rattle.playback.specs.Replays.{Replayed, set_up_all, replay}
 use Rattle.playback.specs.Quiet.{held_in}
-use Rattle.playback.specs.Steps.{fresh_playback, prepared, Step, step, as_stepped, tick_step, hear_step}
-use Rattle.playback.specs.Runs.{Prepares, all_set_up, Lent, Promised, seen, is_over, counted, Steps, Run, not_begun, ended}
+use Rattle.playback.specs.Steps.{fresh_playback, Prepared, prepared, On, Over, Step, step, as_stepped, tick_step, hear_step}
+use Rattle.playback.specs.Runs.{Answer, Prepares, all_set_up, way_of, Lent, Promised, seen, is_over, counted, Steps, Run, not_begun, ended}
 use Rattle.playback.specs.Runs.{replayed_in64, Fed, SomeRun}
-use Rattle.playback.proofs.StepCases.{Case, all_done, wants_bytes, wants_room, faulty, ticked, heard, step_case}
+use Rattle.playback.proofs.StepCases.{Case, all_done, wants_bytes, wants_room, faulty, ticked, heard, step_case, AnswersSo, answers_so}
 use Rattle.playback.proofs.Holding.{Holds}
 use Rattle.playback.proofs.Steps.{goes_on}
 use Rattle.playback.proofs.Runs.{fresh_holds, prepares_as, every_replay}
@@ -45,9 +44,9 @@ module _ (window : List ℕ) (end : Bool) (output : List ℕ) (p : Playback) (lo
       by (inr (bytes, many)) = enough_is_not_cut window 0 bytes (omega arith) cut
 
 pub fed : Fed
-fed recording at l p r left promised long enough =
-    subst (λ (x : Stepped). (x.way ≡ On) ⊎ (x.way ≡ Over)) (sym promised.0)
-    (not_asked l.window l.ended l.output p long enough (step_case l.window l.ended l.output p))
+fed recording at l p r after left promised long enough =
+    let way = ap way_of promised.0 ∙ (answers_so l.window l.ended l.output p).way in
+    rw way (not_asked l.window l.ended l.output p long enough (step_case l.window l.ended l.output p))
 
 -- ── all that is left, lent at once ──
 module _ (recording : List ℕ) where
@@ -73,24 +72,30 @@ module _ (recording : List ℕ) where
     steps : Steps recording p at count xs q end
     lent : Lent recording end
     r : Stepped
+    after : Playback
     left : List ℕ
-    promised : Promised lent q r left
-    is_over_here : is_over r.way ≡ true
+    promised : Promised lent q r after left
+    is_over_here : is_over (way_of r) ≡ true
 
   module _ (p : Playback) (at : ℕ) (inside : at ≤ length recording) where
     abbrev s : Step
     s = step (drop at recording) true room p
 
+    so : AnswersSo s
+    so = answers_so (drop at recording) true room p
+
     one_more : is_over s.way ≡ false → Rest s.playback (at + s.took) → Rest p at
     one_more not_over rest =
         record {
-          count = counted s.way + rest.count;
-          xs = seen (as_stepped s) (over s.bytes room) ++ rest.xs;
+          count = counted (way_of (as_stepped s)) + rest.count;
+          xs = seen (as_stepped s) s.playback (over s.bytes room) ++ rest.xs;
           q = rest.q;
           end = rest.end;
-          steps = Steps.next (all_left at inside) (as_stepped s) (over s.bytes room) (refl, refl) not_over rest.steps;
+          steps = Steps.next (all_left at inside) (as_stepped s) s.playback (over s.bytes room) (refl, refl, refl) (ap is_over so.way ∙ not_over)
+              (subst (λ (n : ℕ). Steps recording s.playback (at + n) rest.count rest.xs rest.q rest.end) (sym so.took) rest.steps);
           lent = rest.lent;
           r = rest.r;
+          after = rest.after;
           left = rest.left;
           promised = rest.promised;
           is_over_here = rest.is_over_here;
@@ -106,9 +111,10 @@ module _ (recording : List ℕ) where
           steps = Steps.start;
           lent = all_left at inside;
           r = as_stepped s;
+          after = s.playback;
           left = over s.bytes room;
-          promised = (refl, refl);
-          is_over_here = is_over_here;
+          promised = (refl, refl, refl);
+          is_over_here = ap is_over so.way ∙ is_over_here;
         }
 
     pub went_on : is_over s.way ≡ false → counted s.way ≡ 1
@@ -140,24 +146,24 @@ module _ (recording : List ℕ) where
 
 -- ── the settings ──
 pub record SomeSettings (p : Playback) (settings : List (Stream × Settings)) : Type 0 where
-  pub reply : node_reply.Reply
+  pub r : Answer
   pub q : Playback
-  pub set_up_call : Prepares p settings reply q
+  pub set_up_call : Prepares p settings r q
 
 pub some_settings : (settings : List (Stream × Settings)) (p : Playback) → SomeSettings p settings
-some_settings [] p = record { reply = node_reply.TheVariants.Done; q = p; set_up_call = all_set_up }
-some_settings ((s, x) ∷ rest) p = by (some_settings rest r.playback) (eqb (of_node.number_of r.reply) 0) refl
+some_settings [] p = record { r = Ok tt; q = p; set_up_call = all_set_up }
+some_settings ((s, x) ∷ rest) p = by (some_settings rest o.playback) (is_done o.reply) refl
   where
-    r : Prepared
-    r = prepared s x p
+    o : Prepared
+    o = prepared s x p
 
-    by : SomeSettings r.playback rest → (t : Bool) → eqb (of_node.number_of r.reply) 0 ≡ t → SomeSettings p ((s, x) ∷ rest)
-    by more true e = record { reply = more.reply; q = more.q; set_up_call = Prepares.next r refl e more.set_up_call }
-    by more false e = record { reply = r.reply; q = r.playback; set_up_call = Prepares.refused r refl e }
+    by : SomeSettings o.playback rest → (t : Bool) → is_done o.reply ≡ t → SomeSettings p ((s, x) ∷ rest)
+    by more true e = record { r = more.r; q = more.q; set_up_call = Prepares.next (rw e refl, refl) more.set_up_call }
+    by more false e = record { r = Err o.reply; q = o.playback; set_up_call = Prepares.refused o.reply (rw e refl, refl) }
 
 -- ── a whole run ──
 pub some_run : SomeRun
-some_run settings recording = by (eqb (of_node.number_of set.reply) 0) refl
+some_run settings recording = by set.r set.set_up_call
   where
     set : SomeSettings fresh_playback settings
     set = some_settings settings fresh_playback
@@ -165,11 +171,11 @@ some_run settings recording = by (eqb (of_node.number_of set.reply) 0) refl
     so : {r : Replayed} → Run settings recording r → Run settings recording (replayed_in64 (replay settings recording))
     so {r} run = subst (Run settings recording) (every_replay settings recording r run) run
 
-    by : (t : Bool) → eqb (of_node.number_of set.reply) 0 ≡ t → Run settings recording (replayed_in64 (replay settings recording))
-    by false e = so (not_begun set.set_up_call e)
-    by true e =
-        let begun = prepares_as set.set_up_call fresh 0 fresh_holds in
+    by : (r : Answer) → Prepares fresh_playback settings r set.q → Run settings recording (replayed_in64 (replay settings recording))
+    by (Err reply) prepares = so (not_begun reply prepares)
+    by (Ok x) prepares =
+        let begun = prepares_as prepares fresh 0 fresh_holds in
         let rest =
         to_the_end recording (held_in (set_up_all settings fresh).node.slots + length recording) (set_up_all settings fresh).node set.q 0 begun.holds
         (omega arith) (recording_in recording) (every_recording_is_read recording) (omega arith) in
-        so (ended set.set_up_call e rest.steps rest.lent rest.r rest.left rest.promised rest.is_over_here)
+        so (ended prepares rest.steps rest.lent rest.r rest.after rest.left rest.promised rest.is_over_here)

@@ -1,37 +1,21 @@
 -- Every step of the code goes as the definition does, and the last one says how it ends.
-use Rattle.std.proofs.Common.{◌≡◌, ℕ, ◌+◌, ◌<◌, Bool, true, false, eqb, ◌≢◌, ◌⊎◌, List, [], length, sym, refl, ap, ◌∙◌, subst, inl, inr, true≢false, zero-add, arith}
+use Rattle.std.proofs.Common.{◌≡◌, ℕ, ◌<◌, true, false, ◌≢◌, ◌⊎◌, List, [], length, sym, refl, ap, ◌∙◌, subst, inl, inr, true≢false, arith}
 use mathlib.Core.Bool.{false≢true}
-use Rattle.wire.specs.Delivered.{following, is_cut}
-use Rattle.heard.specs.declared.reading.HeardAt.{HeardAt}
-use Rattle.heard.specs.declared.reply.Reply.TheVariants.{Done, CutRecord}
-use Rattle.heard.specs.Replies.{number_of}
-use Rattle.heard.specs.Kinds.{is_known}
-use Rattle.heard.specs.Reading.{bad_length, kind_at, heard_at}
+use Rattle.heard.specs.declared.reply.Reply.TheVariants.{CutRecord}
+use Rattle.heard.specs.Replies.{Done, Refused, number_of}
+use Rattle.heard.specs.Reading.{HeardAt, heard_at}
 use Rattle.heard.specs.Recordings.{Recording}
 use Rattle.heard.specs.RoundTrip.{ReadBy, at_end, at_fault, one_read}
 use Rattle.heard.specs.Windows.{moved}
-use Rattle.heard.proofs.Passed.{answer_by}
+use Rattle.heard.proofs.Replies.{not_done}
 use Rattle.node.specs.declared.Node.{Node}
 use Rattle.playback.specs.declared.Playback.{Playback}
-use Rattle.playback.specs.declared.step.Way.TheVariants.{Over}
 use Rattle.playback.specs.Replays.{replay_on}
-use Rattle.playback.specs.Steps.{Step, stopped, jumped, tick_step, hear_step, step}
+use Rattle.playback.specs.Steps.{Over, Step, stopped, jumped, tick_step, hear_step, step}
 use Rattle.playback.specs.Runs.{Lent, is_over, replayed_in64}
 use Rattle.playback.proofs.StepCases.{Case, all_done, wants_bytes, wants_room, faulty, ticked, heard, step_case}
 use Rattle.playback.proofs.Holding.{Holds}
 use Rattle.playback.proofs.Following.{Went, asked, same_gap, same_still, in_the_window, what_is_left, tick_went, hear_went}
-
--- what cannot be read has another reply than Done, and is where it was looked for
-pub unread : (bytes : List ℕ) (at : ℕ) → (heard_at bytes at).ok ≡ false → (eqb (number_of (heard_at bytes at).reply) 0 ≡ false) × ((heard_at bytes at).next ≡ at)
-unfolding heard_at
-unread bytes at = go (is_cut bytes at) (is_known (kind_at bytes at)) (bad_length (kind_at bytes at) (following bytes at))
-  where
-    go : (cut known bad : Bool) → (answer_by bytes at cut known bad).ok ≡ false
-        → (eqb (number_of (answer_by bytes at cut known bad).reply) 0 ≡ false) × ((answer_by bytes at cut known bad).next ≡ at)
-    go true known bad h = (refl, refl)
-    go false false bad h = (refl, refl)
-    go false true true h = (refl, refl)
-    go false true false h = absurd (true≢false h)
 
 module _ {recording : List ℕ} {at : ℕ} (l : Lent recording at) (u : Node) (p : Playback) (holds : Holds u at p)
     (rest : Recording) (reads : ReadBy recording at rest) where
@@ -67,26 +51,25 @@ module _ {recording : List ℕ} {at : ℕ} (l : Lent recording at) (u : Node) (p
   -- nothing is left
   done_so : l.ended ≡ true → length l.window ≡ 0 → {rest : Recording} → ReadBy recording at rest → Ends (stopped Over Done 0 p) rest
   done_so ended none (at_end past) = refl
-  done_so ended none (at_fault r inside e bad) = absurd (omega (arith, inside, what_is_left l, none, ap length (l.none_beyond ended)))
-  done_so ended none (one_read r inside e ok later) = absurd (omega (arith, inside, what_is_left l, none, ap length (l.none_beyond ended)))
+  done_so ended none (at_fault reply inside e) = absurd (omega (arith, inside, what_is_left l, none, ap length (l.none_beyond ended)))
+  done_so ended none (one_read r inside e later) = absurd (omega (arith, inside, what_is_left l, none, ap length (l.none_beyond ended)))
 
   -- a record is at fault
-  module _ (bad : (heard_at l.window 0).ok ≡ false) (tells : ((heard_at l.window 0).reply ≢ CutRecord) ⊎ (l.ended ≡ true)) where
+  module _ (bad : (heard_at l.window 0).ok ≡ false) (tells : ((heard_at l.window 0).reply ≢ Refused CutRecord) ⊎ (l.ended ≡ true)) where
     answer : heard_at recording at ≡ moved at (heard_at l.window 0)
     answer = (in_the_window l (by tells)).0
       where
-        by : ((heard_at l.window 0).reply ≢ CutRecord) ⊎ (l.ended ≡ true) → ((heard_at l.window 0).reply ≢ CutRecord) ⊎ (l.beyond ≡ [])
+        by : ((heard_at l.window 0).reply ≢ Refused CutRecord) ⊎ (l.ended ≡ true) → ((heard_at l.window 0).reply ≢ Refused CutRecord) ⊎ (l.beyond ≡ [])
         by (inl other) = inl other
         by (inr ended) = inr (l.none_beyond ended)
 
     fault_so : 0 < length l.window → {rest : Recording} → ReadBy recording at rest → Ends (stopped Over (heard_at l.window 0).reply p.taken p) rest
     fault_so some (at_end past) = absurd (omega (arith, past, what_is_left l))
-    fault_so some (at_fault r inside e bad') =
-        let not_done = unread l.window 0 bad in
-        let here : 0 + at ≡ at = zero-add at in
-        rw (e, answer, not_done.0, not_done.1, here, holds.taken)
-    fault_so some (one_read r inside e ok later) =
-        absurd (true≢false (sym ok ∙ ap (λ (x : HeardAt). x.ok) (e ∙ answer) ∙ bad))
+    fault_so some (at_fault reply inside e) =
+        let is : (heard_at l.window 0).reply ≡ Refused reply = sym (ap (λ (x : HeardAt). x.reply) (e ∙ answer)) in
+        rw (is, not_done reply, holds.taken)
+    fault_so some (one_read r inside e later) =
+        absurd (true≢false (ap (λ (x : HeardAt). x.ok) (e ∙ answer) ∙ bad))
 
   ends_so : {s : Step} → Cases s → is_over s.way ≡ true → Ends s rest
   unfolding tick_step hear_step

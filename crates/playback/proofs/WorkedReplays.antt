@@ -1,6 +1,7 @@
 -- The worked replays give what their table says. They are computed step by step, as the code goes, since the definition ticks 65,541 times in one of
 -- them; and the steps give what the definition says.
-use Rattle.std.proofs.Common.{◌≡◌, ℕ, zero, suc, ◌+◌, ◌-◌, ◌<◌, ◌≤◌, Bool, true, false, cond, ◌&&◌, eqb, ltb, List, [], ◌∷◌, map, length, drop, sym, refl, ap, ◌∙◌, append-nil, arith, drop-drop, ltb-true}
+use Rattle.std.proofs.Common.{◌≡◌, ℕ, zero, suc, ◌+◌, ◌-◌, ◌<◌, ◌≤◌, Bool, true, false, cond, ◌&&◌, eqb, ltb, List, [], ◌∷◌, map, length, drop, sym, refl, ap}
+use Rattle.std.proofs.Common.{◌∙◌, append-nil, arith, drop-drop, ltb-true}
 use mathlib.Core.Bool.{and-eq-true_iff}
 use Rattle.wire.specs.declared.ids.Stream.{Stream}
 use Rattle.wire.specs.declared.settings.Settings.{Settings}

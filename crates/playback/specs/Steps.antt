@@ -1,12 +1,11 @@
 -- The playback and its steps, in the numbers of the code: a counter of 16 bits, ticks and offset of 64.
-use Rattle.std.specs.Prelude.{ℕ, ◌+◌, ◌%◌, Bool, cond, not, ◌&&◌, List, [], length, ◌==◌, nat_lt}
+use Rattle.std.specs.Prelude.{ℕ, ◌+◌, ◌%◌, Bool, cond, not, ◌&&◌, List, [], length, ◌==◌, nat_lt, Result, Ok, Err}
 use Rattle.wire.specs.declared.ids.Stream.{Stream}
 use Rattle.wire.specs.declared.settings.Settings.{Settings}
-use Rattle.heard.specs.declared.reading.HeardAt.{HeardAt}
-use Rattle.heard.specs.declared.reply.Reply.{Reply}
-use Rattle.heard.specs.declared.reply.Reply.TheVariants.{Done, ShortOutput, CutRecord}
-use Rattle.heard.specs.Replies.{number_of}
-use Rattle.heard.specs.Reading.{heard_at}
+use Rattle.wire.specs.declared.reply.Reply as node_reply
+use Rattle.heard.specs.declared.reply.Reply.TheVariants.{ShortOutput, CutRecord}
+use Rattle.heard.specs.Replies.{Reply, Done, Refused, number_of}
+use Rattle.heard.specs.Reading.{HeardAt, heard_at}
 use Rattle.heard.specs.Recordings.{record_in}
 use Rattle.node.specs.declared.Node.{Node}
 use Rattle.node.specs.Nodes.{fresh}
@@ -15,10 +14,8 @@ use Rattle.node.specs.Hear.{hear}
 use Rattle.node.specs.Tick.{tick_room, tick}
 use Rattle.node.specs.Clock.{period, rolled}
 use Rattle.playback.specs.declared.Playback.{Playback}
-use Rattle.playback.specs.declared.set_up.Prepared.{Prepared}
-use Rattle.playback.specs.declared.step.Way.{Way}
-use Rattle.playback.specs.declared.step.Way.TheVariants.{On, MoreBytes, MoreRoom, Over}
-use Rattle.playback.specs.declared.step.Stepped.{Stepped}
+use Rattle.playback.specs.declared.step.Stepped as code
+use Rattle.playback.specs.declared.step.Fault.{Fault}
 use Rattle.playback.specs.Gaps.{gap_from}
 use Rattle.playback.specs.Quiet.{quiet, standing}
 
@@ -33,11 +30,23 @@ abbrev pub with_node : Node → Playback → Playback
 with_node n p = record { node = n; ticks = p.ticks; taken = p.taken }
 
 -- ── the settings ──
+-- what is left, and the reply: Done, or as the node's set up refuses it
+pub record Prepared : Type 0 where
+  pub playback : Playback
+  pub reply : node_reply.Reply
+
 abbrev pub prepared : Stream → Settings → Playback → Prepared
 prepared s settings p =
     let o = set_up s settings p.node in record { playback = with_node o.node p; reply = o.reply }
 
 -- ── a step ──
+-- it was taken; or more bytes or more room are needed for it; or the replay has ended
+pub data Way : Type 0 where
+  On : Way
+  MoreBytes : Way
+  MoreRoom : Way
+  Over : Way
+
 -- what a step leaves, why it stopped, how many bytes of the window it took, and what it writes to the front of the lent output
 pub record Step : Type 0 where
   pub playback : Playback
@@ -84,23 +93,27 @@ towards r window output p =
 -- a record that cannot be read: more of it may follow, where the recording has not ended
 abbrev pub at_fault : Reply → (ended : Bool) → Playback → Step
 at_fault reply ended p =
-    cond (number_of reply == number_of CutRecord && not ended) (stopped MoreBytes Done 0 p) (stopped Over reply p.taken p)
+    cond (number_of reply == number_of (Refused CutRecord) && not ended) (stopped MoreBytes Done 0 p) (stopped Over reply p.taken p)
 
 unfoldable pub step : (window : List ℕ) → (ended : Bool) → (output : List ℕ) → Playback → Step
 step window ended output p =
     let r = heard_at window 0 in
     cond (ended && length window == 0) (stopped Over Done 0 p)
     (cond (not r.ok) (at_fault r.reply ended p)
-    (cond (nat_lt (length output) tick_room) (stopped MoreRoom ShortOutput 0 p)
+    (cond (nat_lt (length output) tick_room) (stopped MoreRoom (Refused ShortOutput) 0 p)
     (towards r window output p)))
 
-abbrev pub as_stepped : Step → Stepped
-as_stepped s =
-    record {
-      playback = s.playback;
-      way = s.way;
-      reply = s.reply;
-      offset = s.offset;
-      took = s.took;
-      written = length s.bytes;
-    }
+-- how a replay ended: Done, or the fault of the record at this offset
+abbrev pub ended_so : Reply → (offset : ℕ) → Result (Unit {0}) Fault
+ended_so Done offset = Ok tt
+ended_so (Refused reply) offset = Err (record { reply = reply; offset = offset })
+
+-- as the code answers it
+abbrev pub answered_so : Way → Step → code.Stepped
+answered_so On s = code.TheVariants.On s.took (length s.bytes)
+answered_so MoreBytes s = code.TheVariants.MoreBytes
+answered_so MoreRoom s = code.TheVariants.MoreRoom
+answered_so Over s = code.TheVariants.Over (ended_so s.reply s.offset)
+
+abbrev pub as_stepped : Step → code.Stepped
+as_stepped s = answered_so s.way s

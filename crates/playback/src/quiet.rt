@@ -6,36 +6,30 @@ ghost use Rattle.playback.specs.Quiet.{with_slot, quiet};
 
 use node::Node;
 use node::slots::Slot;
+use node::tick::age;
 use wire::settings::Settings;
 
 // Of so many ticks at most: all of them, where nothing is held.
-pub fn quiet(node: Node, most: u32) -> u32
-    ensures { result ≡ quiet rolled most node }
+pub fn quiet(node: &Node, most: u32) -> u32
+    ensures { result ≡ quiet rolled most node.now }
 {
     let now = node.counter;
-    let mut least = most;
-    let mut i: usize = Node::SLOTS;
-    while i > 0 {
-        i -= 1;
-        least = with_slot(node.slots[i], now, least);
-    }
-    least
+    node.slots
+        .iter()
+        .rev()
+        .fold(most, |least, slot| with_slot(*slot, now, least))
 }
 
 // For how many ticks a slot stays as well, where the others stay for so many.
+#[tactic(auto, unfolding(crate::specs::Quiet::with_slot))]
 fn with_slot(slot: Slot, now: u16, others: u32) -> u32
     ensures { result ≡ with_slot rolled now slot others }
 {
     if !slot.message.held {
         return others;
     }
-    let age = std::num::wrapping_sub_u16(now, slot.message.stamp) as u32;
-    let longest = longest(slot);
-    if longest < age {
-        return 0;
-    }
-    let left = longest - age;
-    if left <= others { left } else { others }
+    let held = u32::from(age(now, slot.message.stamp));
+    longest(slot).saturating_sub(held).min(others)
 }
 
 // The age at which the slot's message is held at the longest.
@@ -44,10 +38,10 @@ fn longest(slot: Slot) -> u32
 {
     let s = slot.settings;
     if s.role == Settings::SEND {
-        return (s.rd as u32) + (s.dd as u32);
+        return u32::from(s.rd) + u32::from(s.dd);
     }
-    if (s.class == Settings::TWO_MESSAGE) & !slot.message.confirmed {
-        return s.dc as u32;
+    if s.class == Settings::TWO_MESSAGE && !slot.message.confirmed {
+        return u32::from(s.dc);
     }
-    s.dd as u32
+    u32::from(s.dd)
 }

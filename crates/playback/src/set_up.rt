@@ -1,5 +1,6 @@
 // Setting up a stream on the node, before the recording is read.
 ghost use Rattle.std.specs.Prelude.{◌≡◌};
+ghost use Rattle.wire.specs.Answers.{answered};
 ghost use Rattle.playback.specs.Steps.{prepared};
 
 use crate::Playback;
@@ -7,28 +8,12 @@ use wire::ids::Stream;
 use wire::reply::Reply;
 use wire::settings::Settings;
 
-#[derive(Clone, Copy)]
-pub struct Prepared {
-    pub playback: Playback,
-    // Done, or as the node's set up refuses it: that ends the replay, at offset 0.
-    pub reply: Reply,
-}
-
 impl Playback {
-    pub fn set_up(self, stream: Stream, settings: Settings) -> Prepared
-        ensures { result ≡ prepared stream settings self }
+    // As the node does. A refusal ends the replay, at offset 0.
+    pub fn set_up(&mut self, stream: Stream, settings: Settings) -> Result<(), Reply>
+        ensures { let p = prepared stream settings self.old in
+            (result ≡ answered p.reply tt) × (self.new ≡ p.playback) }
     {
-        let node = self.node;
-        let answered = node.set_up(stream, settings);
-        let after = answered.node;
-        let reply = answered.reply;
-        Prepared {
-            playback: Playback {
-                node: after,
-                ticks: self.ticks,
-                taken: self.taken,
-            },
-            reply,
-        }
+        self.node.set_up(stream, settings)
     }
 }

@@ -1,7 +1,9 @@
 // One step of a replay: quiet ticks at once, and then one call of the node.
 ghost use Rattle.std.specs.Prelude.{◌≡◌, ◌+◌, ◌≤◌, length};
 ghost use Rattle.wire.specs.Delivered.{over};
-ghost use Rattle.playback.specs.Steps.{stopped, at_fault, jumped, tick_step, hear_step, step, as_stepped};
+ghost use Rattle.heard.specs.Replies.{Refused};
+ghost use Rattle.heard.specs.Answers.{was_read};
+ghost use Rattle.playback.specs.Steps.{at_fault, jumped, tick_step, hear_step, step, as_stepped};
 
 use crate::Playback;
 use crate::gap::gap;
@@ -10,30 +12,29 @@ use heard::reading::{HeardAt, heard_at};
 use heard::reply::Reply;
 use node::Node;
 
-#[derive(Clone, Copy)]
-pub enum Way {
+// What a step answers.
+#[derive(Clone, Copy, Debug, PartialEq, Eq)]
+pub enum Stepped {
     // The step was taken. Call again, and lend the bytes behind those that were taken.
-    On,
+    On {
+        // How many of the lent bytes were taken: those of the record that was heard, or none.
+        took: usize,
+        // How many bytes of the output were written: delivered records, at the tick count `ticks`.
+        written: usize,
+    },
     // The lent bytes end inside a record. Call again with more of them, or say that no more follow.
     MoreBytes,
     // The output is shorter than a tick may need.
     MoreRoom,
-    // The replay has ended.
-    Over,
+    // The replay has ended, with the recording or at a record at fault.
+    Over(Result<(), Fault>),
 }
 
-#[derive(Clone, Copy)]
-pub struct Stepped {
-    pub playback: Playback,
-    pub way: Way,
-    // Over: Done, or the fault of the record at `offset`. MoreRoom: ShortOutput. Else Done.
+#[derive(Clone, Copy, Debug, PartialEq, Eq)]
+pub struct Fault {
     pub reply: Reply,
-    // Where the record at fault starts, modulo 2^64; 0, where there is none.
+    // Where the record at fault starts, modulo 2^64.
     pub offset: u64,
-    // How many of the lent bytes were taken: those of the record that was heard, or none.
-    pub took: usize,
-    // How many bytes of the output were written: delivered records, at the tick count `playback.ticks`.
-    pub written: usize,
 }
 
 impl Playback {
@@ -44,112 +45,75 @@ impl Playback {
     pub const ROOM: usize = Node::TICK_ROOM;
 
     // `window` has the next bytes of the recording; `ended` says that no more follow them.
-    pub fn step(self, window: &[u8], ended: bool, out: &mut [u8]) -> Stepped
-        ensures answer { result ≡ as_stepped (step window.now ended out.old self) }
-        ensures output { out.new ≡ over (step window.now ended out.old self).bytes out.old }
+    pub fn step(&mut self, window: &[u8], ended: bool, out: &mut [u8]) -> Stepped
+        ensures { let s = step window.now ended out.old self.old in
+            (result ≡ as_stepped s) × (self.new ≡ s.playback) × (out.new ≡ over s.bytes out.old) }
     {
-        if ended & (window.len() == 0) {
-            return self.stopped(Way::Over, Reply::Done, 0);
+        if ended & window.is_empty() {
+            return Stepped::Over(Ok(()));
         }
-        let read = heard_at(window, 0);
-        if !read.ok {
-            let reply = read.reply;
-            return self.at_fault(reply, ended);
-        }
+        let read = match heard_at(window, 0) {
+            Ok(read) => read,
+            Err(reply) => return self.at_fault(reply, ended),
+        };
         if out.len() < Playback::ROOM {
-            return self.stopped(Way::MoreRoom, Reply::ShortOutput, 0);
+            return Stepped::MoreRoom;
         }
         let gap = gap(self.ticks, read.heard);
-        let node = self.node;
-        let still = quiet(node, gap);
-        let ready = self.jumped(still);
+        let still = quiet(&self.node, gap);
+        self.jump(still);
         if still < gap {
-            return ready.tick_step(out);
+            return self.tick_step(out);
         }
-        ready.hear_step(read, window, out)
-    }
-
-    fn stopped(self, way: Way, reply: Reply, offset: u64) -> Stepped
-        ensures { result ≡ as_stepped (stopped way reply offset self) }
-    {
-        Stepped {
-            playback: self,
-            way,
-            reply,
-            offset,
-            took: 0,
-            written: 0,
-        }
+        self.hear_step(read, window, out)
     }
 
     // At a record that cannot be read: more of it may follow, where the recording has not ended.
-    fn at_fault(self, reply: Reply, ended: bool) -> Stepped
-        ensures { result ≡ as_stepped (at_fault reply ended self) }
+    fn at_fault(&self, reply: Reply, ended: bool) -> Stepped
+        ensures { result ≡ as_stepped (at_fault (Refused reply) ended self.now) }
     {
-        let offset = self.taken;
-        if (reply.number() == Reply::CutRecord.number()) & !ended {
-            return self.stopped(Way::MoreBytes, Reply::Done, 0);
+        if reply == Reply::CutRecord && !ended {
+            return Stepped::MoreBytes;
         }
-        self.stopped(Way::Over, reply, offset)
+        Stepped::Over(Err(Fault {
+            reply,
+            offset: self.taken,
+        }))
     }
 
     // So many quiet ticks at once.
-    fn jumped(self, k: u32) -> Playback
-        ensures { result ≡ jumped k self }
+    fn jump(&mut self, k: u32)
+        ensures { self.new ≡ jumped k self.old }
     {
-        let mut node = self.node;
-        node.counter = std::num::wrapping_add_u16(node.counter, (k % 65536) as u16);
-        Playback {
-            node,
-            ticks: std::num::wrapping_add_u64(self.ticks, k as u64),
-            taken: self.taken,
-        }
+        self.node.counter = self.node.counter.wrapping_add((k % 65536) as u16);
+        self.ticks = self.ticks.wrapping_add(u64::from(k));
     }
 
-    fn tick_step(self, out: &mut [u8]) -> Stepped
-        ensures { (result ≡ as_stepped (tick_step out.old self))
-            × (out.new ≡ over (tick_step out.old self).bytes out.old) }
+    fn tick_step(&mut self, out: &mut [u8]) -> Stepped
+        ensures { let s = tick_step out.old self.old in
+            (result ≡ as_stepped s) × (self.new ≡ s.playback) × (out.new ≡ over s.bytes out.old) }
     {
-        let node = self.node;
-        let delivered = node.tick(out);
-        let after = delivered.node;
-        Stepped {
-            playback: Playback {
-                node: after,
-                ticks: std::num::wrapping_add_u64(self.ticks, 1),
-                taken: self.taken,
-            },
-            way: Way::On,
-            reply: Reply::Done,
-            offset: 0,
-            took: 0,
-            written: delivered.written,
-        }
+        let written = self.node.tick(out).map_or(0, |ticked| ticked.written);
+        self.ticks = self.ticks.wrapping_add(1);
+        Stepped::On { took: 0, written }
     }
 
     // A frame that the node refuses is passed over.
-    fn hear_step(self, read: HeardAt, window: &[u8], out: &mut [u8]) -> Stepped
+    fn hear_step(&mut self, read: HeardAt, window: &[u8], out: &mut [u8]) -> Stepped
         requires { (read.next ≡ read.payload + read.length) × (read.next ≤ length window.now) }
-        ensures { (result ≡ as_stepped (hear_step read window.now out.old self))
-            × (out.new ≡ over (hear_step read window.now out.old self).bytes out.old) }
+        ensures { let s = hear_step (was_read read) window.now out.old self.old in
+            (result ≡ as_stepped s) × (self.new ≡ s.playback) × (out.new ≡ over s.bytes out.old) }
     {
-        let node = self.node;
-        let heard = read.heard;
-        let from = read.payload;
-        let to = read.next;
-        let delivered = node.hear(heard.id, heard.dlc, &window[from..to], out);
-        let after = delivered.node;
-        Stepped {
-            playback: Playback {
-                node: after,
-                ticks: self.ticks,
-                taken: std::num::wrapping_add_u64(self.taken, to as u64),
-            },
-            way: Way::On,
-            reply: Reply::Done,
-            offset: 0,
-            took: to,
-            written: delivered.written,
+        let frame = read.heard;
+        let payload = &window[read.payload..read.next];
+        let written = self
+            .node
+            .hear(frame.id, frame.dlc, payload, out)
+            .map_or(0, |heard| heard.written);
+        self.taken = self.taken.wrapping_add(read.next as u64);
+        Stepped::On {
+            took: read.next,
+            written,
         }
     }
 }

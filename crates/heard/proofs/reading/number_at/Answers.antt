@@ -1,34 +1,22 @@
--- `number_at` meets its contract: at the loop's turn i the bytes from i on are read.
+-- `number_at` meets its contract: so many bytes before zeros are the number of four.
 use native.Mathlib.Omega.{arith}
-use mathlib.Core.Path.{◌≡◌, sym}
-use Prim.Native.Nat.{◌+◌, ◌-◌}
-use Rattle.heard.proofs.Numbers.{one_byte_down, one_byte_more, three_bytes}
+use mathlib.Core.Path.{◌≡◌, ◌∙◌}
+use mathlib.Core.List.{List, [], ◌∷◌, ◌++◌}
+use Prim.Native.Nat.{ℕ, ◌-◌, ◌+◌}
+use lib.ListN.{length, take, drop}
+use Rattle.std.specs.Int.{w32, from_le_bytes}
+use Rattle.std.proofs.Common.{length-take-le, length-drop}
+use Rattle.heard.proofs.Numbers.{number_in_four, number_in_part, number_small}
 use Rattle.heard.proofs.reading.number_at.Goals as goal
-
-pub loop-i-init : goal.loop-i-init
-loop-i-init c =
-    let none : c.args.width - c.args.width ≡ 0 = omega arith in
-    (omega arith, rw none, rw none (omega arith))
-
-pub overflow_mul-n : goal.overflow_mul-n
-overflow_mul-n c =
-    omega (arith, three_bytes c.loop-i.i c.args.width (omega arith) (omega arith) c.loop-i.n (omega arith) (omega arith))
-
-pub overflow_add-n : goal.overflow_add-n
-overflow_add-n c =
-    omega (arith, three_bytes c.loop-i.i c.args.width (omega arith) (omega arith) c.loop-i.n (omega arith) (omega arith))
-
-pub loop-i-preserved : goal.loop-i-preserved
-loop-i-preserved c =
-    let a = c.args in
-    let down = one_byte_down c.loop-i.i a.width (omega arith) (omega arith) a.bytes.now a.at in
-    let more = one_byte_more c.loop-i.i a.width (omega arith) (omega arith) c.loop-i.n (omega arith) c.wide.result (omega arith) in
-    (omega arith, rw (c.loop-i.invariant.1, c.wide.ensures.0) (sym down), more)
 
 pub returns : goal.returns
 returns c =
     let a = c.args in
-    let last : c.loop-i.i ≡ 0 = omega arith in
-    let all : a.width - c.loop-i.i ≡ a.width = omega arith in
-    let here : a.at + c.loop-i.i ≡ a.at = omega arith in
-    (rw (all, here) at c.loop-i.invariant.1, rw all at c.loop-i.invariant.2)
+    let so : a.at + a.width - a.at ≡ a.width = omega arith in
+    let part : List ℕ = take a.width (drop a.at a.bytes.now) in
+    let long : length part ≡ a.width = length-take-le a.width (drop a.at a.bytes.now) (omega (arith, length-drop a.at a.bytes.now)) in
+    let copied : c.copy_from_slice.new.self ≡ part = rw so at c.copy_from_slice.ensures.after in
+    let read : c.from_le_bytes.result ≡ from_le_bytes w32 (c.copy_from_slice.new.self ++ drop a.width (0 ∷ 0 ∷ 0 ∷ 0 ∷ [])) = c.from_le_bytes.ensures in
+    let is = rw copied at read in
+    let it = is ∙ number_in_four part a.width long c.requires.0 ∙ number_in_part a.width a.bytes.now a.at in
+    (it, rw it (number_small a.width a.bytes.now a.at (λ i. omega (arith, c.type_inv.bytes i))))

@@ -1,41 +1,15 @@
--- `put_number` meets its contract: at the loop's turn i the bytes from i on are left to store.
-use borrow.Author.Rules.{rules}
-use native.Mathlib.Nat.{add-zero, sub-zero}
-use native.Mathlib.Omega.{arith}
-use mathlib.Core.Path.{◌≡◌, refl, sym, ◌∙◌}
-use Prim.Native.Nat.{◌-◌}
-use lib.ListN.{length-set}
-use Rattle.heard.proofs.Storing.{number_goes_on}
+-- `put_number` meets its contract: the bytes of the number are written over a part of the output.
+use mathlib.Core.Path.{sym, ◌∙◌}
+use lib.Seq.{length-sets}
+use Rattle.wire.specs.Delivered.{little_endian}
+use Rattle.heard.proofs.Numbers.{low_bytes}
+use Rattle.heard.proofs.Storing.{stored_part, length_number}
 use Rattle.heard.proofs.writing.put_number.Goals as goal
-
-pub loop-i-init : goal.loop-i-init
-loop-i-init c = (search rules, refl, rw (add-zero, sub-zero))
-
--- ?? no goal overflow-cast-out
--- cast_out : tie.Need-overflow-cast-out invariant_loop decreases_loop
--- cast_out c = search rules
---
-
--- ?? no goal overflow-add-out
--- add_out : tie.Need-overflow-add-out invariant_loop decreases_loop
--- add_out c = search rules
---
-
--- ?? no goal overflow-add-i
--- add_i : tie.Need-overflow-add-i invariant_loop decreases_loop
--- add_i c = search rules
---
-
-pub loop-i-preserved : goal.loop-i-preserved
-loop-i-preserved c =
-    let a = c.args in (
-      omega arith,
-      simp length-set c.loop-i.invariant.1,
-      sym (number_goes_on c.loop-i.out a.at c.loop-i.i a.width c.loop-i.rest (omega arith)) ∙ c.loop-i.invariant.2,
-    )
 
 pub returns : goal.returns
 returns c =
     let a = c.args in
-    let none : a.width - c.loop-i.i ≡ 0 = omega arith in
-    (rw none at c.loop-i.invariant.2, c.loop-i.invariant.1)
+    let bytes = c.copy_from_slice.ensures.after ∙ rw c.to_le_bytes.ensures (low_bytes a.width a.n c.requires.0) in
+    let all = little_endian a.width a.n in
+    let stored = stored_part a.out.now c.copy_from_slice.new.self all a.at a.width bytes (sym (length_number a.width a.n)) c.requires.1 in
+    (stored, rw stored (length-sets a.out.now a.at all))
