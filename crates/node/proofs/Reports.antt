@@ -17,12 +17,14 @@ use Rattle.node.specs.WorkedReports.{report_rows, ReportsAsWorked, DeliveredAreR
 use Rattle.node.specs.contracts.told.Told.{enum}
 
 pub reports_rolled : ReportsAsWorked rolled
-unfolding report_rows set_up less_free in_place hear heard_by told_by tick late due hold_over lapsed many request requested next_frame join give given_out legal carries
+unfolding report_rows set_up less_free in_place hear heard_by told_by tick late due
+    hold_over lapsed many request requested next_frame join give given_out legal carries
     same_bytes first on_first some
 reports_rolled = refl
 
 pub reports_unbounded : ReportsAsWorked unbounded
-unfolding report_rows set_up less_free in_place hear heard_by told_by tick late due hold_over lapsed many request requested next_frame join give given_out legal carries
+unfolding report_rows set_up less_free in_place hear heard_by told_by tick late due
+    hold_over lapsed many request requested next_frame join give given_out legal carries
     same_bytes first on_first some
 reports_unbounded = refl
 

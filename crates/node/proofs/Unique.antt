@@ -1,6 +1,8 @@
 -- Every public promise is met by one answer only, for every node and every input, and leaves a lent output one content only.
+use Rattle.std.proofs.Common.{◌≡◌}
 use Rattle.wire.specs.Uniqueness.{OneAnswer, OneContent}
 use Rattle.wire.proofs.Unique.{same}
+use Rattle.node.specs.declared.Node.{Node}
 use Rattle.node.proofs.Node.set_up.Reads as set_up_call
 use Rattle.node.proofs.Node.hear.Reads as hear
 use Rattle.node.proofs.Node.tick.Reads as tick
@@ -14,11 +16,11 @@ use Rattle.node.proofs.slots.Slot.is_receiver.Reads as is_receiver
 use Rattle.node.proofs.slots.Slot.is_sender.Reads as is_sender
 use Rattle.node.proofs.slots.Slot.is_busy.Reads as is_busy
 use Rattle.node.proofs.slots.Slot.set_up.Reads as slot_set_up
-use Rattle.node.proofs.slots.Slot.hear_reply.Reads as hear_reply
+use Rattle.node.proofs.slots.Slot.check_hear.Reads as check_hear
 use Rattle.node.proofs.slots.Slot.hear.Reads as slot_hear
 use Rattle.node.proofs.hear.deliver_plain.Reads as deliver_plain
 use Rattle.node.proofs.next_frame.give_payload.Reads as give_payload
-use Rattle.node.proofs.slots.Slot.request_reply.Reads as request_reply
+use Rattle.node.proofs.slots.Slot.check_request.Reads as check_request
 use Rattle.node.proofs.slots.Slot.requested.Reads as requested
 use Rattle.node.proofs.tick.next.Reads as next
 use Rattle.node.proofs.tick.age.Reads as age
@@ -37,34 +39,55 @@ use Rattle.node.proofs.slots.Message.same.Reads as same_payload
 use Rattle.node.proofs.slots.pad.Reads as pad
 use Rattle.node.proofs.slots.Pending.any.Reads as any_pending
 
+-- and so it leaves a lent node as one node only
+module _ {L : Type 0} {I A E : L → Type 0} where
+  abbrev pub OneNode : ((l : L) → I l → A l → E l → Type 0) → ((l : L) → E l → Node) → Type 0
+  OneNode promise left =
+      (l : L) (input : I l) (a b : A l) (s t : E l) → promise l input a s → promise l input b t → left l s ≡ left l t
+
 -- ── the five calls ──
 pub set_up_unique : OneAnswer set_up_call.Post
-set_up_unique l input a b s t p q = same p.0 q.0
+set_up_unique l input a b s t p q = same p.0.0 q.0.0
+
+pub set_up_node_unique : OneNode set_up_call.Post (λ l e. e.0.now)
+set_up_node_unique l input a b s t p q = same p.0.1 q.0.1
 
 pub hear_unique : OneAnswer hear.Post
 hear_unique l input a b s t p q = same p.0.0 q.0.0
 
 pub hear_content_unique : OneContent hear.Post (λ l e. e.1.1.1.1.0.now)
-hear_content_unique l input a b s t p q = same p.0.1 q.0.1
+hear_content_unique l input a b s t p q = same p.0.2 q.0.2
+
+pub hear_node_unique : OneNode hear.Post (λ l e. e.0.now)
+hear_node_unique l input a b s t p q = same p.0.1 q.0.1
 
 pub tick_unique : OneAnswer tick.Post
 tick_unique l input a b s t p q = same p.0.0 q.0.0
 
 pub tick_content_unique : OneContent tick.Post (λ l e. e.1.0.now)
-tick_content_unique l input a b s t p q = same p.0.1 q.0.1
+tick_content_unique l input a b s t p q = same p.0.2 q.0.2
+
+pub tick_node_unique : OneNode tick.Post (λ l e. e.0.now)
+tick_node_unique l input a b s t p q = same p.0.1 q.0.1
 
 pub request_unique : OneAnswer request.Post
-request_unique l input a b s t p q = same p.0 q.0
+request_unique l input a b s t p q = same p.0.0 q.0.0
+
+pub request_node_unique : OneNode request.Post (λ l e. e.0.now)
+request_node_unique l input a b s t p q = same p.0.1 q.0.1
 
 pub next_frame_unique : OneAnswer next_frame_call.Post
 next_frame_unique l input a b s t p q = same p.0.0 q.0.0
 
 pub next_frame_content_unique : OneContent next_frame_call.Post (λ l e. e.1.0.now)
-next_frame_content_unique l input a b s t p q = same p.0.1 q.0.1
+next_frame_content_unique l input a b s t p q = same p.0.2 q.0.2
+
+pub next_frame_node_unique : OneNode next_frame_call.Post (λ l e. e.0.now)
+next_frame_node_unique l input a b s t p q = same p.0.1 q.0.1
 
 -- ── a slot's steps ──
-pub hear_reply_unique : OneAnswer hear_reply.Post
-hear_reply_unique l input a b s t = same
+pub check_hear_unique : OneAnswer check_hear.Post
+check_hear_unique l input a b s t = same
 
 pub slot_hear_unique : OneAnswer slot_hear.Post
 slot_hear_unique l input a b s t = same
@@ -81,8 +104,8 @@ give_payload_unique l input a b s t p q = same p.0 q.0
 pub give_payload_content_unique : OneContent give_payload.Post (λ l e. e.0.now)
 give_payload_content_unique l input a b s t p q = same p.1.0 q.1.0
 
-pub request_reply_unique : OneAnswer request_reply.Post
-request_reply_unique l input a b s t = same
+pub check_request_unique : OneAnswer check_request.Post
+check_request_unique l input a b s t = same
 
 pub requested_unique : OneAnswer requested.Post
 requested_unique l input a b s t = same

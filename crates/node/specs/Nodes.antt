@@ -1,12 +1,12 @@
 -- The node, and the outcome of a call on it.
-use Rattle.std.specs.Prelude.{ℕ, Bool, cond, List, [], ◌∷◌, length, replicate}
+use Rattle.std.specs.Prelude.{ℕ, Bool, cond, List, [], ◌∷◌, length, replicate, Result}
 use Rattle.wire.specs.declared.ids.Stream.{Stream}
 use Rattle.wire.specs.declared.ids.BusId.{BusId}
 use Rattle.wire.specs.declared.reply.Reply.{Reply}
 use Rattle.wire.specs.declared.reply.Reply.TheVariants.{Done}
+use Rattle.wire.specs.Answers.{answered}
 use Rattle.node.specs.declared.slots.Slot.{Slot}
 use Rattle.node.specs.declared.Node.{Node}
-use Rattle.node.specs.declared.Answered.{Answered}
 use Rattle.node.specs.declared.Heard.{Heard}
 use Rattle.node.specs.declared.Ticked.{Ticked}
 use Rattle.node.specs.declared.Given.{Given}
@@ -68,22 +68,15 @@ done n written = record { node = n; reply = Done; id = no_id; bytes = written; r
 abbrev pub telling : Report → Outcome → Outcome
 telling report o = record { node = o.node; reply = o.reply; id = o.id; bytes = o.bytes; report = report }
 
--- the outcome as each call answers it
-abbrev pub as_answered : Outcome → Answered
-as_answered o = record { node = o.node; reply = o.reply }
+-- the outcome as each call answers it: its values where the reply is Done, and else the reply
+abbrev pub as_answered : Outcome → Result (Unit {0}) Reply
+as_answered o = answered o.reply tt
 
-abbrev pub as_heard : Outcome → Heard
-as_heard o = record { node = o.node; reply = o.reply; written = length o.bytes; told = o.report.frame }
+abbrev pub as_heard : Outcome → Result Heard Reply
+as_heard o = answered o.reply (record { written = length o.bytes; told = o.report.frame })
 
-abbrev pub as_ticked : Outcome → Ticked
-as_ticked o =
-    record {
-      node = o.node;
-      reply = o.reply;
-      written = length o.bytes;
-      dropped = o.report.dropped;
-      delivered = o.report.delivered;
-    }
+abbrev pub as_ticked : Outcome → Result Ticked Reply
+as_ticked o = answered o.reply (record { written = length o.bytes; dropped = o.report.dropped; delivered = o.report.delivered })
 
-abbrev pub as_given : Outcome → Given
-as_given o = record { node = o.node; reply = o.reply; id = o.id; len = length o.bytes }
+abbrev pub as_given : Outcome → Result Given Reply
+as_given o = answered o.reply (record { id = o.id; len = length o.bytes })

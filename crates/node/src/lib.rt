@@ -1,15 +1,15 @@
-// The node: one module's protocol state, and the five calls on it. Each call takes the whole node
-// and gives the whole node back, with a numbered reply. A call looks for slots in a loop of its own,
-// since a function that did so would be handed a copy of the node.
+// The node: one module's protocol state, and the five calls on it. Each call changes the node where it
+// stands, and answers its values, or the reply that refuses it.
 #![tactic(auto)]
 
-ghost use Rattle.std.specs.Prelude.{◌≡◌};
+ghost use Rattle.std.specs.Prelude.{◌≡◌, position};
+ghost use Rattle.node.specs.Slots.{is_free, is_of};
 ghost use Rattle.node.specs.Nodes.{fresh};
+ghost use Rattle.node.specs.NextFrame.{has_frame};
 
 use crate::slots::Slot;
 use crate::told::Told;
-use wire::ids::BusId;
-use wire::reply::Reply;
+use wire::ids::{BusId, Stream};
 
 pub mod hear;
 pub mod next_frame;
@@ -21,7 +21,7 @@ pub mod told;
 
 // Fields in their order, as C has them.
 #[repr(C)]
-#[derive(Clone, Copy)]
+#[derive(Clone, Copy, Debug, Eq, PartialEq)]
 pub struct Node {
     pub slots: [Slot; Node::SLOTS],
     pub counter: u16,
@@ -31,7 +31,7 @@ impl Node {
     // So many streams can be set up.
     pub const SLOTS: usize = 32;
 
-    // Before any call: no stream is set up, and the counter is 0.
+    // Before any call: no stream is set up, and the counter is 0. A const has no contract: `fresh` promises what it is.
     pub const FRESH: Node = Node {
         slots: [Slot::EMPTY; Node::SLOTS],
         counter: 0,
@@ -42,39 +42,47 @@ impl Node {
     {
         Node::FRESH
     }
-}
 
-// What set up and request answer.
-#[derive(Clone, Copy)]
-pub struct Answered {
-    pub node: Node,
-    pub reply: Reply,
+    // Where the stream's slot stands.
+    fn place_of(&self, stream: Stream) -> Option<usize>
+        ensures { result ≡ position (is_of stream) self.now.slots }
+    {
+        self.slots.iter().position(|s| s.is_of(stream))
+    }
+
+    // Where the first free slot stands.
+    fn free_place(&self) -> Option<usize>
+        ensures { result ≡ position is_free self.now.slots }
+    {
+        self.slots.iter().position(|s| s.is_free())
+    }
+
+    // Where the first slot stands that has a frame pending.
+    fn place_of_frame(&self) -> Option<usize>
+        ensures { result ≡ position has_frame self.now.slots }
+    {
+        self.slots.iter().position(|s| s.has_frame())
+    }
 }
 
 // What hear answers: how many bytes of the output were written, and what the frame did.
-#[derive(Clone, Copy)]
+#[derive(Clone, Copy, Debug, Eq, PartialEq)]
 pub struct Heard {
-    pub node: Node,
-    pub reply: Reply,
     pub written: usize,
     pub told: Told,
 }
 
 // What tick answers: how many bytes of the output were written, and how many messages were dropped and delivered.
-#[derive(Clone, Copy)]
+#[derive(Clone, Copy, Debug, Eq, PartialEq)]
 pub struct Ticked {
-    pub node: Node,
-    pub reply: Reply,
     pub written: usize,
     pub dropped: u32,
     pub delivered: u32,
 }
 
 // What next frame answers: the frame's identifier, and the length of its payload.
-#[derive(Clone, Copy)]
+#[derive(Clone, Copy, Debug, Eq, PartialEq)]
 pub struct Given {
-    pub node: Node,
-    pub reply: Reply,
     pub id: BusId,
     pub len: usize,
 }

@@ -1,77 +1,45 @@
 // Setting up a stream.
-ghost use Rattle.std.specs.Prelude.{◌≡◌, List};
+ghost use Rattle.std.specs.Prelude.{◌≡◌, ◌<◌, List, length, ltb, position};
+ghost use Rattle.std.specs.Option.{IfSome};
 ghost use Rattle.node.specs.Nodes.{as_answered};
 ghost use Rattle.node.specs.SetUp.{set_up};
 ghost use Rattle.node.specs.Clock.{rolled, unbounded};
 ghost use Rattle.node.specs.Calls.{Call, after, roll_outcome};
 
+use crate::Node;
 use crate::slots::Slot;
-use crate::{Answered, Node};
 use wire::ids::Stream;
 use wire::reply::Reply;
 use wire::settings::Settings;
 
+// Where the first of these slots stands that has a higher stream.
+fn place_above(slots: &[Slot], stream: Stream) -> Option<usize>
+    ensures place { result ≡ position (λ y. ltb stream.0 y.stream.0) slots.now }
+    ensures within { IfSome result (λ i. i < length slots.now) }
+{
+    slots.iter().position(|s| stream.0 < s.stream.0)
+}
+
 impl Node {
     // Gives a stream a slot, with its settings.
-    pub fn set_up(mut self, stream: Stream, settings: Settings) -> Answered
-        ensures exact { result ≡ as_answered (set_up stream settings self) }
-        ensures unbounded { (h : List Call) → self ≡ after rolled h → result ≡ as_answered (roll_outcome (set_up stream settings (after unbounded h))) }
+    pub fn set_up(&mut self, stream: Stream, settings: Settings) -> Result<(), Reply>
+        ensures exact { (result ≡ as_answered (set_up stream settings self.old))
+            × (self.new ≡ (set_up stream settings self.old).node) }
+        ensures unbounded { (h : List Call) → self.old ≡ after rolled h
+            → (result ≡ as_answered (roll_outcome (set_up stream settings (after unbounded h))))
+            × (self.new ≡ (roll_outcome (set_up stream settings (after unbounded h))).node) }
     {
         if !settings.legal(stream) {
-            return Answered {
-                node: self,
-                reply: Reply::BadSettings,
-            };
+            return Err(Reply::BadSettings);
         }
-        // Where the first free slot stands; past the last slot, where there is none.
-        let mut i: usize = 0;
-        while i < Node::SLOTS {
-            let s = self.slots[i];
-            if s.is_free() {
-                break;
-            }
-            i += 1;
+        if self.place_of(stream).is_some() {
+            return Err(Reply::Taken);
         }
-        // The same of the stream's slot.
-        let mut k: usize = 0;
-        while k < Node::SLOTS {
-            let s = self.slots[k];
-            if s.is_of(stream) {
-                break;
-            }
-            k += 1;
-        }
-        if k < Node::SLOTS {
-            return Answered {
-                node: self,
-                reply: Reply::Taken,
-            };
-        }
-        if i >= Node::SLOTS {
-            return Answered {
-                node: self,
-                reply: Reply::TableFull,
-            };
-        }
+        let free = self.free_place().ok_or(Reply::TableFull)?;
         // Its slot stands before the first one with a higher stream; those from there on move up, to the free place.
-        let mut j: usize = 0;
-        while j < i {
-            let s = self.slots[j];
-            if stream.0 < s.stream.0 {
-                break;
-            }
-            j += 1;
-        }
-        while i > j {
-            i -= 1;
-            let s = self.slots[i];
-            self.slots[i + 1] = s;
-        }
-        let s = Slot::set_up(stream, settings);
-        self.slots[j] = s;
-        Answered {
-            node: self,
-            reply: Reply::Done,
-        }
+        let place = place_above(&self.slots[..free], stream).unwrap_or(free);
+        self.slots.copy_within(place..free, place + 1);
+        self.slots[place] = Slot::set_up(stream, settings);
+        Ok(())
     }
 }

@@ -10,8 +10,10 @@ use wire::frame::{MAX_PAYLOAD, at_most_payload};
 use wire::ids::Stream;
 use wire::settings::Settings;
 
+// Fields in their order, as C has them. Kept with flags, and not as an Option: C has `held` so, and a message that is not held may
+// still have to be sent.
 #[repr(C)]
-#[derive(Clone, Copy)]
+#[derive(Clone, Copy, Debug, Eq, PartialEq)]
 pub struct Message {
     // The counter when the message was taken up.
     pub stamp: u16,
@@ -63,29 +65,15 @@ impl Message {
     pub fn payload_length(self) -> usize
         ensures { result ≡ length (payload_of self) }
     {
-        at_most_payload(self.len as usize)
+        at_most_payload(usize::from(self.len))
     }
 
     // Whether a payload has the message's length and bytes.
     pub fn same(self, payload: &[u8]) -> bool
         ensures { result ≡ same self payload.now }
     {
-        let len = self.len as usize;
-        if payload.len() != len {
-            return false;
-        }
-        if len > Message::MAX_LEN {
-            return false;
-        }
-        let bytes = self.bytes;
-        let mut i: usize = 0;
-        while i < len {
-            if bytes[i] != payload[i] {
-                return false;
-            }
-            i += 1;
-        }
-        true
+        let len = usize::from(self.len);
+        len <= Message::MAX_LEN && &self.bytes[..len] == payload
     }
 }
 
@@ -94,17 +82,14 @@ pub fn pad(payload: &[u8]) -> [u8; Message::MAX_LEN]
     ensures { result ≡ padded (take max_payload payload.now) }
 {
     let n = at_most_payload(payload.len());
-    let mut bytes = [0u8; Message::MAX_LEN];
-    let mut i: usize = 0;
-    while i < n {
-        bytes[i] = payload[i];
-        i += 1;
-    }
+    let mut bytes = [0; Message::MAX_LEN];
+    bytes[..n].copy_from_slice(&payload[..n]);
     bytes
 }
 
+// Which frames are pending; the flags are kept, since C has them so.
 #[repr(C)]
-#[derive(Clone, Copy)]
+#[derive(Clone, Copy, Debug, Eq, PartialEq)]
 pub struct Pending {
     // The frame with the payload: data, or the plain frame.
     pub payload: bool,
@@ -138,8 +123,9 @@ impl Pending {
     }
 }
 
+// Fields in their order, as C has them. `used` is kept beside the stream, and not as an Option: C has it so.
 #[repr(C)]
-#[derive(Clone, Copy)]
+#[derive(Clone, Copy, Debug, Eq, PartialEq)]
 pub struct Slot {
     pub stream: Stream,
     pub settings: Settings,
@@ -149,6 +135,7 @@ pub struct Slot {
 }
 
 impl Slot {
+    // A const has no contract: `empty` promises what it is.
     pub const EMPTY: Slot = Slot {
         stream: Stream(0),
         settings: Settings::NONE,
@@ -168,8 +155,8 @@ impl Slot {
         ensures { result ≡ slot_for stream settings }
     {
         Slot {
-            stream: stream,
-            settings: settings,
+            stream,
+            settings,
             message: Message::NONE,
             pending: Pending::NONE,
             used: true,
@@ -185,7 +172,7 @@ impl Slot {
     pub fn is_of(self, stream: Stream) -> bool
         ensures { result ≡ is_of stream self }
     {
-        self.used & (self.stream.0 == stream.0)
+        self.used & (self.stream == stream)
     }
 
     pub fn is_receiver(self) -> bool

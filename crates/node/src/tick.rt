@@ -14,28 +14,22 @@ use wire::delivered::write_record;
 use wire::reply::Reply;
 use wire::settings::Settings;
 
-fn wide16(x: u16) -> u32
-    ensures { result ≡ x }
-{
-    x as u32
-}
-
 // The counter after a tick.
 pub fn next(now: u16) -> u16
     ensures { result ≡ rolled.next now }
 {
-    std::num::wrapping_add_u16(now, 1)
+    now.wrapping_add(1)
 }
 
 // The age of a stamp, also where the counter has rolled over since.
 pub fn age(now: u16, stamp: u16) -> u16
     ensures { result ≡ rolled.age now stamp }
 {
-    std::num::wrapping_sub_u16(now, stamp)
+    now.wrapping_sub(stamp)
 }
 
 impl Message {
-    // The payload and the zeros after it, eight bytes in all.
+    // The payload and the zeros after it, eight bytes in all. Kept for its contract: it says that they are eight.
     fn all_bytes(self) -> [u8; Message::MAX_LEN]
         ensures { (result ≡ self.bytes) × (length result ≡ max_payload) }
     {
@@ -45,19 +39,14 @@ impl Message {
 
 impl Slot {
     // Held by a receiver, unconfirmed in 2M, and older than the confirm delay.
+    #[tactic(auto, unfolding(crate::specs::Tick::late))]
     pub fn late(self, age: u16) -> bool
         ensures { result ≡ late age self }
     {
         let s = self.settings;
         let m = self.message;
-        if age > s.dc {
-            return self.used
-                & (s.role == Settings::RECEIVE)
-                & m.held
-                & (s.class == Settings::TWO_MESSAGE)
-                & !m.confirmed;
-        }
-        false
+        age > s.dc
+            && self.is_receiver() & m.held & (s.class == Settings::TWO_MESSAGE) & !m.confirmed
     }
 
     // Held by a receiver, confirmed in 2M or IMD, and older than the deliver delay.
@@ -66,31 +55,25 @@ impl Slot {
     {
         let s = self.settings;
         let m = self.message;
-        if age > s.dd {
-            return self.used
-                & (s.role == Settings::RECEIVE)
-                & m.held
-                & ((s.class == Settings::IMD) | (s.class == Settings::TWO_MESSAGE) & m.confirmed);
-        }
-        false
+        let settled = (s.class == Settings::IMD) | (s.class == Settings::TWO_MESSAGE) & m.confirmed;
+        age > s.dd && self.is_receiver() & m.held & settled
     }
 
     // Held by a sender, and older than data reach and deliver delay.
+    #[tactic(auto, unfolding(crate::specs::Tick::hold_over))]
     pub fn hold_over(self, age: u16) -> bool
         ensures { result ≡ hold_over age self }
     {
         let s = self.settings;
-        let m = self.message;
-        if wide16(age) > wide16(s.rd) + wide16(s.dd) {
-            return self.used & (s.role == Settings::SEND) & m.held;
-        }
-        false
+        u32::from(age) > u32::from(s.rd) + u32::from(s.dd) && self.is_sender() & self.message.held
     }
 
     // Whether the message is held and old enough that a tick may change the slot.
+    #[tactic(auto, unfolding(crate::specs::Stirring::may_stir))]
     pub fn may_stir(self, age: u16) -> bool
         ensures { result ≡ may_stir age self }
     {
+        // Kept with returns: by `&&` and `||` a tick costs twice the instructions for each slot.
         if !self.message.held {
             return false;
         }
@@ -105,23 +88,19 @@ impl Slot {
     }
 
     // The message is gone, and an abort is pending.
-    pub fn dropped(mut self) -> Slot
+    pub fn dropped(self) -> Slot
         ensures { result ≡ dropped self }
     {
-        let after_drop = Message::NONE;
-        let mut p = self.pending;
-        p.abort = true;
-        self.message = after_drop;
-        self.pending = p;
-        self
+        let mut gone = self.delivered();
+        gone.pending.abort = true;
+        gone
     }
 
     // The message is gone.
     pub fn delivered(mut self) -> Slot
         ensures { result ≡ delivered self }
     {
-        let after_delivery = Message::NONE;
-        self.message = after_delivery;
+        self.message = Message::NONE;
         self
     }
 
@@ -129,11 +108,9 @@ impl Slot {
     pub fn hold_ended(mut self) -> Slot
         ensures { result ≡ hold_ended self }
     {
-        let mut m = self.message;
-        m.stamp = 0;
-        m.held = false;
-        m.confirmed = false;
-        self.message = m;
+        self.message.stamp = 0;
+        self.message.held = false;
+        self.message.confirmed = false;
         self
     }
 }
@@ -143,62 +120,48 @@ impl Node {
     pub const TICK_ROOM: usize = Node::SLOTS * Node::HEAR_ROOM;
 
     // Moves the counter by one; what is due is delivered, and what is late dropped.
-    pub fn tick(mut self, out: &mut [u8]) -> Ticked
-        ensures exact { (result ≡ as_ticked (tick rolled out.old self))
-            × (out.new ≡ over (tick rolled out.old self).bytes out.old) }
-        ensures unbounded { (h : List Call) → self ≡ after rolled h
+    pub fn tick(&mut self, out: &mut [u8]) -> Result<Ticked, Reply>
+        ensures exact { (result ≡ as_ticked (tick rolled out.old self.old))
+            × (self.new ≡ (tick rolled out.old self.old).node)
+            × (out.new ≡ over (tick rolled out.old self.old).bytes out.old) }
+        ensures unbounded { (h : List Call) → self.old ≡ after rolled h
             → (result ≡ as_ticked (roll_outcome (tick unbounded out.old (after unbounded h))))
+            × (self.new ≡ (roll_outcome (tick unbounded out.old (after unbounded h))).node)
             × (out.new ≡ over (tick unbounded out.old (after unbounded h)).bytes out.old) }
     {
         if out.len() < Node::TICK_ROOM {
-            return Ticked {
-                node: self,
-                reply: Reply::ShortOutput,
-                written: 0,
-                dropped: 0,
-                delivered: 0,
-            };
+            return Err(Reply::ShortOutput);
         }
         let now = next(self.counter);
         self.counter = now;
-        // One pass: the slots that are passed have lapsed, and the records of those that were due stand before `at`.
-        let mut at: usize = 0;
-        let mut dropped: u32 = 0;
-        let mut delivered: u32 = 0;
-        let mut passed: usize = 0;
-        while passed < Node::SLOTS {
-            let i = passed;
-            passed += 1;
+        // One pass: the slots before i have lapsed, and the records of those that were due stand before `written`.
+        // Kept by the place: in a loop by `iter_mut` an invariant knows the slots alone, and the proof, which speaks of the node, did not close.
+        let mut written = 0;
+        let mut dropped = 0;
+        let mut delivered = 0;
+        for i in 0..Node::SLOTS {
             let slot = self.slots[i];
             let a = age(now, slot.message.stamp);
-            if slot.may_stir(a) {
-                // Read again, so that of the slots that do not stir only a few fields are read.
-                let old = self.slots[i];
-                if old.due(a) {
-                    self.slots[i] = old.delivered();
-                    let message = old.message;
-                    let bytes = message.all_bytes();
-                    let n = message.payload_length();
-                    at += write_record(&mut out[at..], old.stream, &bytes[0..n]);
-                    delivered += 1;
-                } else {
-                    // And again, so that what is delivered and what is not share no copy of a slot.
-                    let other = self.slots[i];
-                    if other.late(a) {
-                        self.slots[i] = other.dropped();
-                        dropped += 1;
-                    } else if other.hold_over(a) {
-                        self.slots[i] = other.hold_ended();
-                    }
-                }
+            if !slot.may_stir(a) {
+                continue;
+            }
+            if slot.due(a) {
+                self.slots[i] = slot.delivered();
+                let bytes = slot.message.all_bytes();
+                let n = slot.message.payload_length();
+                written += write_record(&mut out[written..], slot.stream, &bytes[..n]);
+                delivered += 1;
+            } else if slot.late(a) {
+                self.slots[i] = slot.dropped();
+                dropped += 1;
+            } else if slot.hold_over(a) {
+                self.slots[i] = slot.hold_ended();
             }
         }
-        Ticked {
-            node: self,
-            reply: Reply::Done,
-            written: at,
-            dropped: dropped,
-            delivered: delivered,
-        }
+        Ok(Ticked {
+            written,
+            dropped,
+            delivered,
+        })
     }
 }

@@ -4,40 +4,33 @@ ghost use Rattle.node.specs.Told.{told_number, told_by};
 
 use crate::slots::Slot;
 
-#[derive(Clone, Copy)]
+// The numbers are C's. Nothing is kept for C's 0, and for `silent` of specs/Told.antt, which is told beside a refusal and by the
+// other calls; no frame that is taken is told so.
+#[derive(Clone, Copy, Debug, Eq, PartialEq)]
 pub enum Told {
-    Nothing,
-    New,
-    Duplicate,
-    Confirmed,
-    ConfirmedAgain,
-    AbortPending,
-    Dropped,
-    NothingToDrop,
-    Delivered,
+    Nothing = 0,
+    New = 1,
+    Duplicate = 2,
+    Confirmed = 3,
+    ConfirmedAgain = 4,
+    AbortPending = 5,
+    Dropped = 6,
+    NothingToDrop = 7,
+    Delivered = 8,
 }
 
 impl Told {
-    // Its number for callers that know no enum, in C; 0 where nothing is told.
+    // Its number for callers that know no enum, in C. Kept as a method, beside no `From`: `u32::from` would not say which number.
     pub fn number(self) -> u32
         ensures { result ≡ told_number self }
     {
-        match self {
-            Told::Nothing => 0,
-            Told::New => 1,
-            Told::Duplicate => 2,
-            Told::Confirmed => 3,
-            Told::ConfirmedAgain => 4,
-            Told::AbortPending => 5,
-            Told::Dropped => 6,
-            Told::NothingToDrop => 7,
-            Told::Delivered => 8,
-        }
+        self as u32
     }
 }
 
 impl Slot {
-    // What a frame of the slot's stream that it takes does.
+    // What a frame of the slot's stream that it takes does. The code is kept as a number: an identifier splits into it, and C has it so.
+    #[tactic(auto, unfolding(crate::specs::Told::told_by))]
     pub fn told(self, code: u32) -> Told
         ensures { result ≡ told_by code self }
     {
@@ -45,14 +38,12 @@ impl Slot {
         match code {
             0 => if m.held { Told::Duplicate } else { Told::New },
             1 => {
-                if m.held {
-                    if m.confirmed {
-                        Told::ConfirmedAgain
-                    } else {
-                        Told::Confirmed
-                    }
-                } else {
+                if !m.held {
                     Told::AbortPending
+                } else if m.confirmed {
+                    Told::ConfirmedAgain
+                } else {
+                    Told::Confirmed
                 }
             }
             2 => if m.held {

@@ -19,7 +19,8 @@ refusal_unchanged : {n : Node} {tests : Refusals} {Facts : Type 0} {result o : O
     → o.reply ≢ Done → Unchanged n o
 refusal_unchanged {n} law is_done_here =
     by_case (λ (o : Outcome). o.reply ≢ Done → Unchanged n o)
-    (λ r why other. record { node = refl; output = λ lent. refl; written = refl; id = refl; report = refl }) (λ facts other. absurd (other is_done_here)) law.case
+    (λ r why other. record { node = refl; output = λ lent. refl; written = refl; id = refl; report = refl })
+    (λ facts other. absurd (other is_done_here)) law.case
 
 pub refused_unchanged : RefusedUnchanged
 unfolding give

@@ -1,5 +1,6 @@
 -- DLC 8 to 15 are one to a node: the frame test alone looks at the DLC, and what is held is as long as the payload.
-use Rattle.std.proofs.Common.{◌≡◌, ℕ, ◌≤◌, Bool, true, false, not, ◌&&◌, eqb, ltb, List, [], ◌∷◌, ◌++◌, length, drop, replicate, sym, refl, ap, ◌∙◌, eq-eqb, eqb-true}
+use Rattle.std.proofs.Common.{◌≡◌, ℕ, ◌≤◌, Bool, true, false, not, ◌&&◌, eqb, ltb, List, [], ◌∷◌, ◌++◌, length, drop, replicate, sym, refl, ap, ◌∙◌}
+use Rattle.std.proofs.Common.{eq-eqb, eqb-true}
 use mathlib.Core.Bool.{and-eq-true_iff}
 use lib.Seq.{take-append_seam}
 use borrow.Author.Tests.{not-false}

@@ -1,10 +1,12 @@
 -- Hearing a frame: what a frame has, and what hear comes to on each way through its refusals.
-use Rattle.std.proofs.Common.{◌≡◌, ℕ, ◌<◌, ◌≤◌, Bool, true, false, cond, eqb, ltb, List, [], ◌∷◌, ◌++◌, length, get_or, take, set, sym, refl, ◌∙◌, arith, take_all, le-ltb, lt-ltb, le-leb}
+use Rattle.std.proofs.Common.{◌≡◌, ℕ, ◌<◌, ◌≤◌, Bool, true, false, cond, eqb, ltb, List, [], ◌∷◌, ◌++◌, length, get_or, take, set, Result, Ok, Err}
+use Rattle.std.proofs.Common.{sym, refl, ap, ◌∙◌, arith, take_all, le-ltb, lt-ltb, le-leb}
 use Rattle.wire.specs.declared.ids.Stream.{Stream}
 use Rattle.wire.specs.declared.ids.BusId.{BusId}
 use Rattle.wire.specs.declared.reply.Reply.{Reply}
 use Rattle.wire.specs.declared.reply.Reply.TheVariants.{Done, NotMine, ShortOutput}
-use Rattle.wire.specs.Identifiers.{max_bus_id, stream_of, code_of, split}
+use Rattle.wire.specs.Identifiers.{Parts, max_bus_id, stream_of, code_of, split}
+use Rattle.wire.specs.Answers.{is_done, answered}
 use Rattle.wire.specs.Replies.{number_of}
 use Rattle.wire.specs.Frames.{max_payload, is_bare, frame_refusals}
 use Rattle.wire.specs.Delivered.{record_of, fitting}
@@ -18,6 +20,8 @@ use Rattle.node.specs.Nodes.{slot_of, with_slots, refused, done, telling}
 use Rattle.node.specs.Hear.{hear_room, heard_by, plain_record, delivered_at_once, slot_hear_refusals, hear_refusals, hear}
 use Rattle.wire.proofs.Frames.{IsFrame, frame_bounds, frame_passes, frame_length}
 use Rattle.wire.proofs.Records.{cut_length, does_fit}
+use Rattle.node.proofs.Choices.{contrary}
+use Rattle.node.proofs.Answering.{was_refused, was_done}
 use Rattle.node.proofs.hear.Cases.{hear_facts, hear_cases}
 use Rattle.node.proofs.slots.Finding.{index_of, slot_found, slot_stored, slot_missed}
 
@@ -26,6 +30,19 @@ pub frame_splits : (bare : Bool) (id : BusId) (dlc len : ℕ) → IsFrame bare i
     → split id ≡ record { reply = Done; stream = stream_of id; code = code_of id }
 unfolding split
 frame_splits bare id dlc len good = rw (le-leb id.0 max_bus_id good.identifier)
+
+-- into these parts, and the split is not refused
+pub parts_are : (bare : Bool) (id : BusId) (dlc len : ℕ) → IsFrame bare id dlc len → {s : Stream} {code : ℕ}
+    → ◌≡◌ {A = Result (Stream × ℕ) Reply} (Ok (s, code)) (answered (split id).reply ((split id).stream, (split id).code))
+    → (s ≡ stream_of id) × (code ≡ code_of id)
+parts_are bare id dlc len good e =
+    let whole = frame_splits bare id dlc len good in
+    let parts = (was_done _ _ e).0 in
+    (ap (λ (p : Stream × ℕ). p.0) parts ∙ ap (λ (p : Parts). p.stream) whole, ap (λ (p : Stream × ℕ). p.1) parts ∙ ap (λ (p : Parts). p.code) whole)
+
+pub is_split : (bare : Bool) (id : BusId) (dlc len : ℕ) → IsFrame bare id dlc len → {q : Reply} → {A : Type 0}
+    → ◌≡◌ {A = Result (Stream × ℕ) Reply} (Err q) (answered (split id).reply ((split id).stream, (split id).code)) → A
+is_split bare id dlc len good e = contrary (ap (λ (p : Parts). is_done p.reply) (frame_splits bare id dlc len good)) (was_refused _ _ e).1
 
 -- and its payload has at most eight bytes
 pub frame_whole : (bare : Bool) (id : BusId) (dlc : ℕ) (payload : List ℕ) → IsFrame bare id dlc (length payload) → take max_payload payload ≡ payload
@@ -53,7 +70,9 @@ module _ (id : BusId) (dlc : ℕ) (payload output : List ℕ) (n : Node) where
     -- what the frame test answers
     module _ (fault : Reply) (told : fault ≡ reply_of (frame_refusals (is_bare id) id dlc (length payload))) where
       pub no_frame_law : eqb (number_of fault) 0 ≡ false → hear id dlc payload output n ≡ refused n fault
-      no_frame_law e = rw told (refused_at _ refl (later (le-ltb _ _ room) (among (reply_refuses (frame_refusals (is_bare id) id dlc (length payload)) (rw told at e)) _)))
+      no_frame_law e =
+          let why = reply_refuses (frame_refusals (is_bare id) id dlc (length payload)) (rw told at e) in
+          rw told (refused_at _ refl (later (le-ltb _ _ room) (among why _)))
 
       pub a_frame : eqb (number_of fault) 0 ≡ true → IsFrame (is_bare id) id dlc (length payload)
       a_frame e =
@@ -89,5 +108,9 @@ module _ (id : BusId) (dlc : ℕ) (payload output : List ℕ) (n : Node) where
               ≡ telling (of_frame (told_by (code_of id) slot)) (done (with_slots (set n.slots i x) n) (delivered_at_once id payload))
           heard e changed =
               let slot_passed = reply_passes (slot_hear_refusals (code_of id) payload slot) refl (rw said at e) in
-              (hear_cases id dlc payload output n).accepted_if (rw there (hear_facts id dlc payload output slot (le-ltb _ _ room, both_pass (frame_refusals (is_bare id) id dlc (length payload)) (slot_hear_refusals (code_of id) payload slot) passed slot_passed)))
-              ∙ rw (there, changed, frame_whole (is_bare id) id dlc payload good, slot_stored n (stream_of id) i found (heard_by n.counter (code_of id) payload) d inside)
+              let tests = frame_refusals (is_bare id) id dlc (length payload) in
+              let all_passed = both_pass tests (slot_hear_refusals (code_of id) payload slot) passed slot_passed in
+              let facts = hear_facts id dlc payload output slot (le-ltb _ _ room, all_passed) in
+              let whole = frame_whole (is_bare id) id dlc payload good in
+              let stored = slot_stored n (stream_of id) i found (heard_by n.counter (code_of id) payload) d inside in
+              (hear_cases id dlc payload output n).accepted_if (rw there facts) ∙ rw (there, changed, whole, stored)

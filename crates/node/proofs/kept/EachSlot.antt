@@ -1,5 +1,6 @@
 -- What a reached slot keeps, through every change that a call makes of a slot.
-use Rattle.std.proofs.Common.{◌≡◌, ℕ, zero, suc, ◌+◌, ◌-◌, ◌<◌, ◌≤◌, Bool, true, false, cond, not, ◌&&◌, eqb, List, length, take, refl, ap, inl, inr, ⊎_elim, arith, length-append, length-drop, ne_eqb, eqb-true}
+use Rattle.std.proofs.Common.{◌≡◌, ℕ, zero, suc, ◌+◌, ◌-◌, ◌<◌, ◌≤◌, Bool, true, false, cond, not, ◌&&◌, eqb, List, length, take, refl, ap, inl, inr}
+use Rattle.std.proofs.Common.{⊎_elim, arith, length-append, length-drop, ne_eqb, eqb-true}
 use mathlib.Core.Bool.{and-eq-true_iff}
 use lib.Seq.{take-append_seam}
 use lib.Dec.{eqb-suc-zero}

@@ -1,5 +1,6 @@
 -- The rules paper's 2M receiver does what the listing in HURRAY-TR-0014 does, in every history in which all data is equal to what is held.
-use Rattle.std.proofs.Common.{◌≡◌, ℕ, ◌+◌, ◌-◌, Bool, true, false, ◌||◌, ltb, List, [], ◌∷◌, sym, refl, ap, ◌∙◌, subst, ap₂, arith, ltb-false, ltb-true, le-ltb, lt-ltb}
+use Rattle.std.proofs.Common.{◌≡◌, ℕ, ◌+◌, ◌-◌, Bool, true, false, ◌||◌, ltb, List, [], ◌∷◌, sym, refl, ap, ◌∙◌, subst, ap₂, arith, ltb-false}
+use Rattle.std.proofs.Common.{ltb-true, le-ltb, lt-ltb}
 use mathlib.Core.Bool.{or-false, or-true}
 use lib.Seq.{take-append_seam}
 use Rattle.wire.specs.Settings.{receives, sends, is_imd, is_two_message}

@@ -1,5 +1,6 @@
 -- What a slot's pending frames have: which codes, the lowest of them, their identifiers, and whose they are.
-use Rattle.std.proofs.Common.{◌≡◌, ℕ, ◌+◌, ◌*◌, ◌/◌, ◌≤◌, min, Bool, true, false, cond, not, ◌&&◌, ◌||◌, leb, List, [], ◌∷◌, ◌++◌, refl, ap, ◌∙◌, subst, ⊎_elim, arith, eq-eqb, le-leb, leb-false, leb-true}
+use Rattle.std.proofs.Common.{◌≡◌, ℕ, ◌+◌, ◌*◌, ◌/◌, ◌≤◌, min, Bool, true, false, cond, not, ◌&&◌, ◌||◌, leb, List, [], ◌∷◌, ◌++◌, refl, ap, ◌∙◌}
+use Rattle.std.proofs.Common.{subst, ⊎_elim, arith, eq-eqb, le-leb, leb-false, leb-true}
 use mathlib.Core.Bool.{and-eq-true_iff}
 use mathlib.Core.List.Memᴰ
 use mathlib.Core.List.{Memᴰ}

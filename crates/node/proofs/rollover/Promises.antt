@@ -1,6 +1,7 @@
 -- What each call promises, `exact` and `unbounded`, follows from its outcome being what the definition says with counts
 -- that roll over.
-use Rattle.std.proofs.Common.{◌≡◌, ℕ, List, ap, ◌∙◌}
+use Rattle.std.proofs.Common.{◌≡◌, ℕ, List, sym}
+use mathlib.Core.Path.{subst}
 use Rattle.wire.specs.Delivered.{over}
 use Rattle.node.specs.declared.Node.{Node}
 use Rattle.node.specs.Nodes.{Outcome}
@@ -12,41 +13,42 @@ same_outcome : (c : Call) (n : Node) (h : List Call) → n ≡ after rolled h
     → outcome rolled c n ≡ roll_outcome (outcome unbounded c (after unbounded h))
 same_outcome c n h reached = rw reached (unrolled h c)
 
+module _ {R : Type 0} (answer : Outcome → R) where
+  -- what an outcome answers, and leaves of the node
+  abbrev pub Answers : Outcome → (r : R) (left : Node) → Type 0
+  Answers o r left = (r ≡ answer o) × (left ≡ o.node)
+
+  -- and of a lent output
+  abbrev pub AnswersWritten : (output : List ℕ) → Outcome → (r : R) (left : Node) (written : List ℕ) → Type 0
+  AnswersWritten output o r left written = (r ≡ answer o) × (left ≡ o.node) × (written ≡ over o.bytes output)
+
 module _ (c : Call) (n : Node) {R : Type 0} (answer : Outcome → R) where
-  -- a call that returns an answer
-  abbrev pub Promised : (r : R) → Type 0
-  Promised r =
-      (r ≡ answer (outcome rolled c n))
-      × ((h : List Call) → n ≡ after rolled h → r ≡ answer (roll_outcome (outcome unbounded c (after unbounded h))))
+  -- a call that answers, and changes the node
+  abbrev pub Promised : (r : R) (left : Node) → Type 0
+  Promised r left =
+      Answers answer (outcome rolled c n) r left
+      × ((h : List Call) → n ≡ after rolled h → Answers answer (roll_outcome (outcome unbounded c (after unbounded h))) r left)
 
-  pub promised : (o : Outcome) → o ≡ outcome rolled c n → Promised (answer o)
-  promised o e = (ap answer e, λ h reached. ap answer (e ∙ same_outcome c n h reached))
+  pub promised : {r : R} {left : Node} {o : Outcome} → outcome rolled c n ≡ o → Answers answer o r left → Promised r left
+  promised {r} {left} does says =
+      let exact = subst (λ (o : Outcome). Answers answer o r left) (sym does) says in
+      (exact, λ h reached. subst (λ (o : Outcome). Answers answer o r left) (same_outcome c n h reached) exact)
 
-  -- a call that returns an answer, and writes to a lent output
+  -- a call that answers, changes the node, and writes to a lent output
   module _ (output : List ℕ) where
-    abbrev pub PromisedWritten : (r : R) (written : List ℕ) → Type 0
-    PromisedWritten r written =
-        ((r ≡ answer (outcome rolled c n)) × (written ≡ over (outcome rolled c n).bytes output))
+    abbrev pub PromisedWritten : (r : R) (left : Node) (written : List ℕ) → Type 0
+    PromisedWritten r left written =
+        AnswersWritten answer output (outcome rolled c n) r left written
         × ((h : List Call) → n ≡ after rolled h
-        → (r ≡ answer (roll_outcome (outcome unbounded c (after unbounded h))))
-        × (written ≡ over (outcome unbounded c (after unbounded h)).bytes output))
+        → AnswersWritten answer output (roll_outcome (outcome unbounded c (after unbounded h))) r left written)
 
-    both_from : (o p : Outcome) → o ≡ p → (answer o ≡ answer p) × (over o.bytes output ≡ over p.bytes output)
-    both_from o p e = (ap answer e, ap (λ (q : Outcome). over q.bytes output) e)
-
-    pub promised_written : (o : Outcome) → o ≡ outcome rolled c n → PromisedWritten (answer o) (over o.bytes output)
-    promised_written o e = (both_from o _ e, λ h reached. both_from o _ (e ∙ same_outcome c n h reached))
-
-    -- the same, from what the answer and the output are
-    pub promised_exact : {r : R} {written : List ℕ}
-        → (r ≡ answer (outcome rolled c n)) × (written ≡ over (outcome rolled c n).bytes output) → PromisedWritten r written
-    promised_exact exact = (
+    pub promised_exact : {r : R} {left : Node} {written : List ℕ} → AnswersWritten answer output (outcome rolled c n) r left written
+        → PromisedWritten r left written
+    promised_exact {r} {left} {written} exact = (
       exact,
-      λ h reached.
-          let e = same_outcome c n h reached in
-          (exact.0 ∙ ap answer e, exact.1 ∙ ap (λ (q : Outcome). over q.bytes output) e),
+      λ h reached. subst (λ (o : Outcome). AnswersWritten answer output o r left written) (same_outcome c n h reached) exact,
     )
 
-    pub promised_both : {r : R} {written : List ℕ} {o : Outcome} → outcome rolled c n ≡ o → r ≡ answer o
-        → written ≡ over o.bytes output → PromisedWritten r written
-    promised_both does answers writes = promised_exact (rw does answers, rw does writes)
+    pub promised_written : {r : R} {left : Node} {written : List ℕ} {o : Outcome} → outcome rolled c n ≡ o
+        → AnswersWritten answer output o r left written → PromisedWritten r left written
+    promised_written {r} {left} {written} does says = promised_exact (subst (λ (o : Outcome). AnswersWritten answer output o r left written) (sym does) says)

@@ -1,29 +1,20 @@
 -- Putting a slot in its place: where it is to stand, and how the slots from there on move up.
-use Rattle.std.proofs.Common.{◌≡◌, ℕ, zero, suc, ◌+◌, ◌-◌, ◌<◌, ◌≤◌, Bool, true, false, cond, ◌||◌, ltb, List, [], ◌∷◌, length, get_or, set, refl, ap, arith, le-ltb, lt-ltb}
+use Rattle.std.proofs.Common.{◌≡◌, ℕ, zero, suc, ◌+◌, ◌-◌, ◌<◌, ◌≤◌, Bool, true, false, cond, not, ◌||◌, ltb, List, [], ◌∷◌, ◌++◌, length, get_or}
+use Rattle.std.proofs.Common.{take, drop, set, Some, None, position, unwrap_or, refl, ap, ◌∙◌, append_assoc, arith, length-take, ltb-false}
+use Rattle.std.specs.List.{position_or_len, copy_within}
+use Rattle.std.proofs.lemmas.List.Sums.{prefix_len-le-length}
 use Rattle.wire.specs.declared.ids.Stream.{Stream}
 use Rattle.node.specs.declared.slots.Slot.{Slot}
 use Rattle.node.specs.declared.Node.{Node}
 use Rattle.node.specs.Slots.{is_free}
 use Rattle.node.specs.Nodes.{with_slots}
 use Rattle.node.specs.SetUp.{less_free, in_place}
-use Rattle.node.proofs.slots.Finding.{index_of, NoneBefore, found, before_first, found_here, not_here}
+use Rattle.node.proofs.slots.Finding.{index_of}
 
 -- ── where it is to stand ──
 -- before the first slot of which this is true
 abbrev pub is_after : Stream → Slot → Bool
 is_after s y = is_free y || ltb s.0 y.stream.0
-
-module _ (s : Stream) (l : List Slot) (i j : ℕ) (d : Slot) (free : i ≡ index_of is_free l) (room : i < length l) (none : NoneBefore (is_after s) l j) where
-  pub further : j < i → (get_or l j d).stream.0 ≤ s.0 → NoneBefore (is_after s) l (j + 1)
-  further before not_higher =
-      not_here (is_after s) l j d (omega arith) none (rw (before_first is_free l j d (omega arith), le-ltb _ _ not_higher))
-
-  -- at the first free slot, or at one with a higher stream before it
-  pub place_at_free : j ≡ i → j ≡ index_of (is_after s) l
-  place_at_free same = found_here (is_after s) l j d (omega arith) none (rw (same, free, (found is_free l (omega arith)).holds d))
-
-  pub place_before : j < i → s.0 < (get_or l j d).stream.0 → j ≡ index_of (is_after s) l
-  place_before before higher = found_here (is_after s) l j d (omega arith) none (rw (before_first is_free l j d (omega arith), lt-ltb _ _ higher))
 
 -- ── the slots from a place on, moved up to the first free one; at that place the old slot is still there ──
 unfoldable pub moved_up : (k : ℕ) → List Slot → List Slot
@@ -69,6 +60,85 @@ moved_in n m i d moved some_left before room =
     let next : suc (i - 1) ≡ i = omega arith in
     let up : i - 1 + 1 ≡ i = omega arith in
     rw (moved, up, rw next at (one_moved (i - 1) n.slots d (omega arith) room))
+
+-- as the code finds the place: the first with a higher stream before the first free one, or else there
+place_or_length : (test : Slot → Bool) (xs : List Slot) (n : ℕ) → length xs ≡ n → unwrap_or (position test xs) n ≡ position_or_len test xs
+place_or_length test xs n long = go (ltb (position_or_len test xs) (length xs)) refl
+  where
+    go : (b : Bool) → ltb (position_or_len test xs) (length xs) ≡ b → unwrap_or (cond b (Some (position_or_len test xs)) None) n ≡ position_or_len test xs
+    go true h = refl
+    go false h = omega (arith, long, ltb-false _ _ h, prefix_len-le-length (λ x. not (test x)) xs)
+
+before_free : (s : Stream) (xs : List Slot)
+    → position_or_len (λ y. ltb s.0 y.stream.0) (take (index_of is_free xs) xs) ≡ index_of (is_after s) xs
+unfolding index_of
+before_free s [] = refl
+before_free s (y ∷ ys) = go (is_free y) (ltb s.0 y.stream.0) refl (before_free s ys)
+  where
+    higher : Slot → Bool
+    higher z = ltb s.0 z.stream.0
+
+    go : (t u : Bool) → higher y ≡ u → position_or_len higher (take (index_of is_free ys) ys) ≡ index_of (is_after s) ys
+        → position_or_len higher (take (cond t 0 (suc (index_of is_free ys))) (y ∷ ys)) ≡ cond (t || u) 0 (suc (index_of (is_after s) ys))
+    go true u e rest = refl
+    go false true e rest = rw e
+    go false false e rest = rw e (omega (arith, rest))
+
+pub place_is : (s : Stream) (xs : List Slot) → index_of is_free xs < length xs
+    → unwrap_or (position (λ y. ltb s.0 y.stream.0) (take (index_of is_free xs) xs)) (index_of is_free xs) ≡ index_of (is_after s) xs
+place_is s xs room =
+    let long : length (take (index_of is_free xs) xs) ≡ index_of is_free xs = length-take (index_of is_free xs) xs ∙ omega arith in
+    place_or_length (λ y. ltb s.0 y.stream.0) (take (index_of is_free xs) xs) _ long ∙ before_free s xs
+
+-- and moves the slots up
+without_first_free : (xs : List Slot) → take (index_of is_free xs) xs ++ drop (suc (index_of is_free xs)) xs ≡ less_free xs
+unfolding index_of less_free
+without_first_free [] = refl
+without_first_free (y ∷ ys) = go (is_free y) (without_first_free ys)
+  where
+    i : ℕ
+    i = index_of is_free ys
+
+    go : (t : Bool) → take i ys ++ drop (suc i) ys ≡ less_free ys
+        → take (cond t 0 (suc i)) (y ∷ ys) ++ drop (suc (cond t 0 (suc i))) (y ∷ ys) ≡ cond t ys (y ∷ less_free ys)
+    go true rest = refl
+    go false rest = ap (λ (l : List Slot). y ∷ l) rest
+
+up_by_one : (k n : ℕ) (xs : List Slot) → k + n ≡ index_of is_free xs → index_of is_free xs < length xs
+    → take (suc k) xs ++ (take n (drop k xs) ++ drop (suc (index_of is_free xs)) xs) ≡ moved_up k xs
+unfolding index_of moved_up
+up_by_one k n [] e room = absurd (omega arith)
+up_by_one zero n (y ∷ ys) e room =
+    let all : n ≡ index_of is_free (y ∷ ys) = omega arith in
+    rw all (ap (λ (l : List Slot). y ∷ l) (without_first_free (y ∷ ys)))
+up_by_one (suc k) n (y ∷ ys) e room = go (is_free y) e room (up_by_one k n ys)
+  where
+    i : ℕ
+    i = index_of is_free ys
+
+    go : (t : Bool) → suc k + n ≡ cond t 0 (suc i) → cond t 0 (suc i) < suc (length ys)
+        → (k + n ≡ i → i < length ys → take (suc k) ys ++ (take n (drop k ys) ++ drop (suc i) ys) ≡ moved_up k ys)
+        → take (suc (suc k)) (y ∷ ys) ++ (take n (drop (suc k) (y ∷ ys)) ++ drop (suc (cond t 0 (suc i))) (y ∷ ys)) ≡ y ∷ moved_up k ys
+    go true e room rest = absurd (omega arith)
+    go false e room rest = ap (λ (l : List Slot). y ∷ l) (rest (omega arith) (omega arith))
+
+pub copied_up : (k : ℕ) (xs : List Slot) → k ≤ index_of is_free xs → index_of is_free xs < length xs
+    → copy_within xs k (index_of is_free xs) (k + 1) ≡ moved_up k xs
+copied_up k xs before room =
+    let far : k + 1 + (index_of is_free xs - k) ≡ suc (index_of is_free xs) = omega arith in
+    let near : k + 1 ≡ suc k = omega arith in
+    rw (far, near) (append_assoc (take (suc k) xs) _ _ ∙ up_by_one k (index_of is_free xs - k) xs (omega arith) room)
+
+pub after_or_free : (s : Stream) (xs : List Slot) → index_of (is_after s) xs ≤ index_of is_free xs
+unfolding index_of
+after_or_free s [] = omega arith
+after_or_free s (y ∷ ys) = go (is_free y) (ltb s.0 y.stream.0) (after_or_free s ys)
+  where
+    go : (t u : Bool) → index_of (is_after s) ys ≤ index_of is_free ys
+        → cond (t || u) 0 (suc (index_of (is_after s) ys)) ≤ cond t 0 (suc (index_of is_free ys))
+    go true u rest = omega arith
+    go false true rest = omega arith
+    go false false rest = omega (arith, rest)
 
 -- and the slot in its place
 pub placed : (x : Slot) (xs : List Slot) → index_of (is_after x.stream) xs < length xs

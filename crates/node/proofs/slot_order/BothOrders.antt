@@ -52,7 +52,8 @@ abbrev delivered_in_one_pass : Node → List ℕ
 delivered_in_one_pass n = (tick rolled (replicate tick_room 0) n).bytes
 
 pub ascending_in_order : delivered_in_one_pass (after rolled history) ≡ record_of five (8 ∷ []) ++ record_of nine (7 ∷ [])
-unfolding set_up less_free in_place hear heard_by delivered_at_once tick late due hold_over lapsed due_slots records_from record_of legal carries first on_first some
+unfolding set_up less_free in_place hear heard_by delivered_at_once tick late due
+    hold_over lapsed due_slots records_from record_of legal carries first on_first some
 ascending_in_order = refl
 
 pub not_ascending_otherwise : delivered_in_one_pass (in_old_layout history) ≡ record_of nine (7 ∷ []) ++ record_of five (8 ∷ [])

@@ -1,5 +1,6 @@
 -- The old layout's lowest of all pending bus identifiers: it is one of them, none is lower, and where none is pending there is none.
-use Rattle.std.proofs.Common.{◌≡◌, ℕ, ◌+◌, ◌≤◌, min, Bool, true, false, ltb, leb, ◌⊎◌, List, [], ◌∷◌, ◌++◌, length, sym, refl, ap, inl, inr, ⊎_elim, arith, le-ltb, leb-false, leb-true}
+use Rattle.std.proofs.Common.{◌≡◌, ℕ, ◌+◌, ◌≤◌, min, Bool, true, false, ltb, leb, ◌⊎◌, List, [], ◌∷◌, ◌++◌, length, sym, refl, ap, inl, inr, ⊎_elim}
+use Rattle.std.proofs.Common.{arith, le-ltb, leb-false, leb-true}
 use mathlib.Core.List.Memᴰ
 use mathlib.Core.List.{Memᴰ}
 use Rattle.wire.specs.Identifiers.{max_bus_id}

@@ -1,5 +1,6 @@
 -- On slots in stream order the first slot with a frame pending has the lowest of all.
-use Rattle.std.proofs.Common.{◌≡◌, ℕ, ◌+◌, ◌/◌, ◌<◌, ◌≤◌, min, Bool, true, false, cond, not, leb, List, [], ◌∷◌, length, sym, refl, ap, ◌∙◌, ⊎_elim, arith, ltb-false, le-ltb, ne_eqb, eqb-true, leb-false, leb-true}
+use Rattle.std.proofs.Common.{◌≡◌, ℕ, ◌+◌, ◌/◌, ◌<◌, ◌≤◌, min, Bool, true, false, cond, not, leb, List, [], ◌∷◌, length, sym, refl, ap, ◌∙◌, ⊎_elim}
+use Rattle.std.proofs.Common.{arith, ltb-false, le-ltb, ne_eqb, eqb-true, leb-false, leb-true}
 use mathlib.Core.Bool.{and-eq-true_iff}
 use mathlib.Core.List.{Memᴰ}
 use Rattle.wire.specs.declared.ids.Stream.{Stream}

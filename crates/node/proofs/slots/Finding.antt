@@ -1,6 +1,11 @@
 -- Finding a slot by its index: what stands there is the first slot of which the test is true, and where the index is
 -- the table's length there is none. Also a turn of the loop that finds it, from the front of the table on.
-use Rattle.std.proofs.Common.{◌≡◌, ℕ, zero, suc, ◌+◌, ◌<◌, ◌≤◌, Bool, true, false, cond, List, [], ◌∷◌, map, length, get_or, drop, set, sym, refl, ap, ◌∙◌, add-one, arith, drop_of_length-le, drop-cons}
+use Rattle.std.proofs.Common.{◌≡◌, ℕ, zero, suc, ◌+◌, ◌<◌, ◌≤◌, Bool, true, false, cond, not, ltb, List, [], ◌∷◌, map, length, get_or, drop, set}
+use Rattle.std.proofs.Common.{Option, Some, None, position}
+use Rattle.std.proofs.Common.{sym, refl, ap, ◌∙◌, add-one, arith, drop_of_length-le, drop-cons, ltb-true, ltb-false}
+use Rattle.std.specs.List.{position_or_len}
+use Rattle.std.specs.Option.{is_some}
+use Rattle.std.proofs.lemmas.Option.{cond_some}
 use lib.ListN.{length-map}
 use Rattle.wire.specs.declared.ids.Stream.{Stream}
 use Rattle.node.specs.declared.slots.Slot.{Slot}
@@ -107,6 +112,32 @@ module _ (test : Slot → Bool) where
     pub not_here : test (get_or l i d) ≡ false → NoneBefore l (i + 1)
     unfolding index_of
     not_here e = rw add-one (omega (arith, rw (drop-cons l i d inside, e) at none))
+
+  -- ── the place that the code finds ──
+  index_is_place : (l : List Slot) → position_or_len test l ≡ index_of test l
+  unfolding index_of
+  index_is_place [] = refl
+  index_is_place (x ∷ xs) = go (test x) (index_is_place xs)
+    where
+      go : (b : Bool) → position_or_len test xs ≡ index_of test xs
+          → cond (not b) (1 + position_or_len test xs) 0 ≡ cond b 0 (suc (index_of test xs))
+      go true rest = refl
+      go false rest = omega (arith, rest)
+
+  pub place_found : (l : List Slot) {o : Option ℕ} {i : ℕ} → o ≡ position test l → o ≡ Some i → (i ≡ index_of test l) × (i < length l)
+  place_found l {o} {i} e some =
+      let found = cond_some (ltb (position_or_len test l) (length l)) _ _ (sym e ∙ some) in
+      (sym found.1 ∙ index_is_place l, rw found.1 at (ltb-true _ _ found.0))
+
+  pub is_there : (l : List Slot) {o : Option ℕ} → o ≡ position test l → ltb (index_of test l) (length l) ≡ is_some o
+  is_there l e = rw (e, ← (index_is_place l)) (go (ltb (position_or_len test l) (length l)))
+    where
+      go : (b : Bool) → b ≡ is_some (cond b (Some (position_or_len test l)) None)
+      go true = refl
+      go false = refl
+
+  pub place_missed : (l : List Slot) {o : Option ℕ} → o ≡ position test l → o ≡ None → length l ≤ index_of test l
+  place_missed l e none = ltb-false _ _ (is_there l e ∙ ap is_some none)
 
 -- ── the slot of a stream, found in the node's table ──
 module _ (n : Node) (s : Stream) (i : ℕ) (at_index : i ≡ index_of (is_of s) n.slots) where

@@ -1,5 +1,6 @@
 -- Slots in stream order stay so, with another slot in its place and through every change; and then no two are of one stream.
-use Rattle.std.proofs.Common.{◌≡◌, ℕ, zero, suc, ◌<◌, Bool, true, false, cond, ◌||◌, ltb, List, [], ◌∷◌, map, length, replicate, sym, refl, ap, subst, arith, ltb-false, ltb-true, ne_eqb}
+use Rattle.std.proofs.Common.{◌≡◌, ℕ, zero, suc, ◌<◌, Bool, true, false, cond, ◌||◌, ltb, List, [], ◌∷◌, map, length, replicate, sym, refl, ap, subst}
+use Rattle.std.proofs.Common.{arith, ltb-false, ltb-true, ne_eqb}
 use borrow.Author.Tests.{eqb-false, not-true, not-false}
 use Rattle.wire.specs.declared.ids.Stream.{Stream}
 use Rattle.wire.specs.declared.settings.Settings.{Settings}

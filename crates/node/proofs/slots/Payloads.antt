@@ -1,11 +1,11 @@
--- Payloads: comparing two byte by byte, and padding one with zeros.
-use Rattle.std.proofs.Common.{◌≡◌, ℕ, suc, ◌+◌, ◌-◌, ◌<◌, ◌≤◌, min, Bool, true, false, cond, ◌&&◌, eqb, leb, List, [], ◌∷◌, ◌++◌, length, get_or, take, drop, set, replicate, sym, refl, ap, ◌∙◌, zero-add, add-one, arith, take-append-drop, drop_of_length-le, length-take, length-take-le, take_all, drop-cons, get_or-take, eq-eqb, ne_eqb, le-leb}
-use lib.Seq.{paste, paste-suc, take-append_seam}
+-- Payloads: comparing two, and the payload of a message.
+use Rattle.std.proofs.Common.{◌≡◌, ℕ, suc, ◌<◌, ◌≤◌, min, Bool, true, false, ◌&&◌, eqb, List, [], ◌∷◌, length, take, drop, sym, refl, ap, ◌∙◌, arith}
+use Rattle.std.proofs.Common.{take-append-drop, length-take, take_all, true≢false, eq-eqb, eqb-true}
+use lib.Pointwise.{pointwise}
+use lib.Seq.{take-append_seam}
 use Rattle.wire.specs.Frames.{max_payload}
-use Rattle.wire.specs.Delivered.{over}
-use Rattle.wire.proofs.Records.{cut_at_eight, cut_payload_length}
 use Rattle.node.specs.declared.slots.Message.{Message}
-use Rattle.node.specs.Slots.{padded, payload_of, same_bytes, same}
+use Rattle.node.specs.Slots.{payload_of, same_bytes, same}
 
 -- ── comparing ──
 pub differ_in_length : (a b : List ℕ) → (length a ≡ length b → ⊥) → same_bytes a b ≡ false
@@ -19,55 +19,31 @@ differ_in_length (x ∷ a) (y ∷ b) h = go (eqb x y) (differ_in_length a b (λ 
     go true e = e
     go false e = refl
 
--- the loop at i: what was compared before i was the same
-abbrev pub Compared : (n : ℕ) (bytes payload : List ℕ) (i : ℕ) → Type 0
-Compared n bytes payload i = same_bytes (take n bytes) payload ≡ same_bytes (drop i (take n bytes)) (drop i payload)
+-- as `==` compares them
+equal_bytes : (a b : List ℕ) → pointwise eqb a b ≡ same_bytes a b
+unfolding same_bytes
+equal_bytes [] [] = refl
+equal_bytes [] (y ∷ b) = refl
+equal_bytes (x ∷ a) [] = refl
+equal_bytes (x ∷ a) (y ∷ b) = ap (λ (t : Bool). eqb x y && t) (equal_bytes a b)
 
-module _ (n : ℕ) (bytes payload : List ℕ) (enough : n ≤ length bytes) (as_long : length payload ≡ n) where
-  module _ (i : ℕ) (here : i < n) where
-    compared_at : same_bytes (drop i (take n bytes)) (drop i payload)
-        ≡ (eqb (get_or bytes i 0) (get_or payload i 0) && same_bytes (drop (i + 1) (take n bytes)) (drop (i + 1) payload))
-    unfolding same_bytes
-    compared_at =
-        let long = length-take-le n bytes enough in
-        rw (add-one, drop-cons (take n bytes) i 0 (omega arith), drop-cons payload i 0 (omega arith), get_or-take n bytes i 0 here)
+-- a message, which has eight bytes, and a payload
+module _ (m : Message) (payload : List ℕ) (eight : length m.bytes ≡ max_payload) where
+  pub equal_to_payload : m.len ≤ max_payload → pointwise eqb (payload_of m) payload ≡ same m payload
+  equal_to_payload within = equal_bytes (payload_of m) payload ∙ go (eqb m.len (length payload)) refl
+    where
+      go : (t : Bool) → eqb m.len (length payload) ≡ t → same_bytes (payload_of m) payload ≡ (t && same_bytes (payload_of m) payload)
+      go true e = refl
+      go false e =
+          differ_in_length (payload_of m) payload
+          (λ same_length. true≢false (sym (eq-eqb _ _ (omega (arith, same_length, length-take m.len m.bytes, eight))) ∙ e))
 
-    pub same_so_far : Compared n bytes payload i → get_or bytes i 0 ≡ get_or payload i 0 → Compared n bytes payload (i + 1)
-    same_so_far inv e = inv ∙ compared_at ∙ rw (eq-eqb _ _ e)
-
-    pub another_byte : Compared n bytes payload i → (get_or bytes i 0 ≡ get_or payload i 0 → ⊥) → same_bytes (take n bytes) payload ≡ false
-    another_byte inv e = inv ∙ compared_at ∙ rw (ne_eqb _ _ e)
-
-  pub same_to_the_end : (i : ℕ) → n ≤ i → Compared n bytes payload i → same_bytes (take n bytes) payload ≡ true
-  unfolding same_bytes
-  same_to_the_end i past inv =
-      let long = length-take-le n bytes enough in
-      let a : length (take n bytes) ≤ i = omega arith in
-      let b : length payload ≤ i = omega arith in
-      inv ∙ rw (drop_of_length-le (take n bytes) a, drop_of_length-le payload b)
-
-pub message_of_another_length : (m : Message) (payload : List ℕ) → (length payload ≡ m.len → ⊥) → same m payload ≡ false
-message_of_another_length m payload h = let t = ne_eqb m.len (length payload) (λ e. h (sym e)) in rw t
-
-pub message_of_equal_length : (m : Message) (payload : List ℕ) → length payload ≡ m.len → same m payload ≡ same_bytes (payload_of m) payload
-message_of_equal_length m payload h = let t = eq-eqb m.len (length payload) (sym h) in rw t
-
--- ── copying ──
--- the first i of some bytes, over the front of an output
-abbrev pub copied : (output bytes : List ℕ) → ℕ → List ℕ
-copied output bytes i = take i bytes ++ drop i output
-
-pub copy_next : (output bytes : List ℕ) (i : ℕ) → i < length bytes → i < length output
-    → set (copied output bytes i) i (get_or bytes i 0) ≡ copied output bytes (i + 1)
-copy_next output bytes i here room = rw add-one (simp zero-add at (paste-suc output 0 bytes i 0 (omega arith) here))
-
--- ── padding ──
--- the first i bytes of a payload, and zeros up to eight
-abbrev pub filled : List ℕ → ℕ → List ℕ
-filled payload i = copied (replicate max_payload 0) payload i
-
-pub filled_whole : (payload : List ℕ) (n : ℕ) → n ≡ min (length payload) max_payload → filled payload n ≡ padded (take max_payload payload)
-filled_whole payload n e = rw (cut_payload_length payload, e, cut_at_eight payload)
+  pub too_long_to_equal : max_payload < m.len → same m payload ≡ false
+  too_long_to_equal long = go (eqb m.len (length payload)) refl
+    where
+      go : (t : Bool) → eqb m.len (length payload) ≡ t → (t && same_bytes (payload_of m) payload) ≡ false
+      go false e = refl
+      go true e = differ_in_length (payload_of m) payload (λ same_length. omega (arith, eqb-true _ _ e, same_length, length-take m.len m.bytes, eight))
 
 -- ── the payload of a message, which has eight bytes ──
 pub payload_length : (m : Message) → length m.bytes ≡ max_payload → length (payload_of m) ≡ min m.len max_payload
@@ -85,22 +61,5 @@ module _ (m : Message) (bytes : List ℕ) (all : (bytes ≡ m.bytes) × (length 
   pub part_within : n ≤ length bytes
   part_within = omega (arith, all.1, short)
 
-  pub part_is_payload : take max_payload (take (n - 0) bytes) ≡ payload_of m
-  part_is_payload =
-      let whole : n - 0 ≡ length (payload_of m) = omega arith in
-      rw (whole, all.0, take_as_many m.len m.bytes) (take_all max_payload (payload_of m) short)
-
-  -- all eight of them are copied
-  pub eight_copied : n ≡ max_payload → (output : List ℕ) → max_payload ≤ length output → (after : List ℕ)
-      → after
-      ≡ cond (leb (0 + max_payload) (length output) && leb max_payload (length (take (n - 0) bytes))) (paste output 0 (take (n - 0) bytes) max_payload) output
-      → after ≡ over (payload_of m) output
-  eight_copied full output room after made =
-      let long : length (take (n - 0) bytes) ≡ n - 0 = length-take-le (n - 0) bytes (omega (arith, part_within)) in
-      let fits = le-leb (0 + max_payload) (length output) (omega arith) in
-      let enough = le-leb max_payload (length (take (n - 0) bytes)) (omega arith) in
-      let eight : length (payload_of m) ≡ max_payload = omega arith in
-      made ∙ rw (fits, enough, part_is_payload, eight)
-
-pub copied_payload : (m : Message) (output : List ℕ) (n : ℕ) → n ≡ length (payload_of m) → copied output m.bytes n ≡ over (payload_of m) output
-copied_payload m output n e = rw (e, take_as_many m.len m.bytes)
+  pub part_is_payload : take max_payload (take n bytes) ≡ payload_of m
+  part_is_payload = rw (e, all.0, take_as_many m.len m.bytes) (take_all max_payload (payload_of m) short)

@@ -1,5 +1,6 @@
 -- A loop that goes up through a list and changes it: what it has made of the list, up to a place.
-use Rattle.std.proofs.Common.{◌≡◌, ℕ, zero, suc, ◌+◌, ◌<◌, ◌≤◌, List, [], ◌∷◌, ◌++◌, map, length, get_or, take, drop, set, refl, ap, append-nil, le_of_suc-le-suc, not-suc-le-zero, add-one, drop_of_length-le, take_all}
+use Rattle.std.proofs.Common.{◌≡◌, ℕ, zero, suc, ◌+◌, ◌<◌, ◌≤◌, List, [], ◌∷◌, ◌++◌, map, length, get_or, take, drop, set, refl, ap, append-nil}
+use Rattle.std.proofs.Common.{le_of_suc-le-suc, not-suc-le-zero, add-one, drop_of_length-le, take_all}
 
 module _ {A : Type 0} (f : A → A) where
   abbrev pub changed : ℕ → List A → List A

@@ -1,5 +1,7 @@
 -- The tick's loop: it goes up through the slots, writes the records of those that are due, lets each lapse, and counts.
-use Rattle.std.proofs.Common.{◌≡◌, ℕ, ◌+◌, ◌-◌, ◌*◌, ◌<◌, ◌≤◌, Bool, true, false, cond, List, [], ◌∷◌, ◌++◌, map, length, get_or, take, drop, set, sym, refl, ap, ◌∙◌, append_assoc, append-nil, add-one, arith, length-append, length-drop, drop_of_length-le, take_all, drop-cons, drop-drop, take_at, drop_at}
+use Rattle.std.proofs.Common.{◌≡◌, ℕ, ◌+◌, ◌-◌, ◌*◌, ◌<◌, ◌≤◌, Bool, true, false, cond, List, [], ◌∷◌, ◌++◌, map, length, get_or, take, drop, set}
+use Rattle.std.proofs.Common.{sym, refl, ap, ◌∙◌, append_assoc, append-nil, add-one, arith, length-append, length-drop, drop_of_length-le, take_all}
+use Rattle.std.proofs.Common.{drop-cons, drop-drop, take_at, drop_at}
 use Rattle.wire.specs.Frames.{max_payload}
 use Rattle.wire.specs.Delivered.{record_of, over, fitting}
 use Rattle.wire.proofs.Records.{cut_length, does_fit}
@@ -177,10 +179,10 @@ module _ {clock : Clock} {now : ℕ} {slots : List Slot} {out₀ out : List ℕ}
         lent_within = part_within x.message bytes b n e
 
         abbrev asked : List ℕ
-        asked = record_of x.stream (take max_payload (take (n - 0) bytes))
+        asked = record_of x.stream (take max_payload (take n bytes))
 
         asked_is_small : length asked ≤ hear_room
-        asked_is_small = omega (arith, cut_length x.stream (take (n - 0) bytes))
+        asked_is_small = omega (arith, cut_length x.stream (take n bytes))
 
         asked_fits : fitting asked part ≡ asked
         asked_fits =
@@ -210,3 +212,9 @@ module _ {clock : Clock} {now : ℕ} {slots : List Slot} {out₀ out : List ℕ}
               whole = append_assoc w.done (record_from x) (records_from (due_slots clock now (drop (i + 1) slots))) ∙ whole;
               room = omega (arith, w.room);
             }
+
+-- ── all three ──
+pub record Passing (clock : Clock) (now : ℕ) (n₀ n : Node) (out₀ out : List ℕ) (i written dropped delivered : ℕ) : Type 0 where
+  pub lapsing : Lapsing clock now n₀ n i
+  pub writing : Writing clock now n₀.slots out₀ out i written
+  pub counting : Counting clock now n₀.slots i dropped delivered

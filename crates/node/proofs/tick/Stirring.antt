@@ -1,10 +1,11 @@
 -- The three tests of a tick, and what a slot lapses to by them. Each fails of what is too young. A sender's hold may be over; a
 -- receiver's message is late, if it is unconfirmed in 2M, or else due.
-use Rattle.std.proofs.Common.{◌≡◌, ℕ, ◌+◌, ◌<◌, ◌≤◌, Bool, true, false, not, ◌&&◌, ◌||◌, ltb, List, [], ◌∷◌, map, sym, refl, arith, ltb-false, le-ltb, lt-ltb, eqb-true}
+use Rattle.std.proofs.Common.{◌≡◌, ℕ, ◌+◌, ◌<◌, ◌≤◌, Bool, true, false, not, ◌&&◌, ◌||◌, ltb, List, [], ◌∷◌, map, sym, refl, arith, ltb-false, le-ltb}
+use Rattle.std.proofs.Common.{lt-ltb, eqb-true}
 use mathlib.Core.Bool.{and-true, and-false, and_assoc, false≢true}
 use Rattle.wire.specs.Settings.{is_imd, is_two_message, sends}
 use Rattle.node.specs.declared.slots.Slot.{Slot}
-use Rattle.node.specs.Slots.{is_receiver, is_sender}
+use Rattle.node.specs.Slots.{is_receiver}
 use Rattle.node.specs.Clock.{Clock}
 use Rattle.node.specs.Tick.{late, due, hold_over, dropped, delivered, hold_ended, lapsed, age_of, tick_slot, due_slots}
 use Rattle.node.specs.Stirring.{may_stir}
@@ -21,10 +22,6 @@ module _ (age : ℕ) (x : Slot) where
   unfolding late
   young_is_not_late h = rw (le-ltb x.settings.dc age h) (simp and-false)
 
-  pub old_is_late : x.settings.dc < age → is_receiver x && x.message.held && is_two_message x.settings && not x.message.confirmed ≡ late age x
-  unfolding late
-  old_is_late h = rw (lt-ltb x.settings.dc age h) (simp and-true)
-
   pub young_is_not_due : age ≤ x.settings.dd → false ≡ due age x
   unfolding due
   young_is_not_due h = rw (le-ltb x.settings.dd age h) (simp and-false)
@@ -37,10 +34,6 @@ module _ (age : ℕ) (x : Slot) where
   pub young_is_held_on : age ≤ x.settings.rd + x.settings.dd → false ≡ hold_over age x
   unfolding hold_over
   young_is_held_on h = rw (le-ltb (x.settings.rd + x.settings.dd) age h) (simp and-false)
-
-  pub old_is_over : x.settings.rd + x.settings.dd < age → is_sender x && x.message.held ≡ hold_over age x
-  unfolding hold_over
-  old_is_over h = rw (lt-ltb (x.settings.rd + x.settings.dd) age h) (simp and-true)
 
   -- ── by role, class and confirmation ──
   module _ (own : sends x.settings ≡ true) where

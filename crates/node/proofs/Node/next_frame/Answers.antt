@@ -1,46 +1,50 @@
--- `Node::next_frame` meets its contract: the loop finds the index of the first slot with a frame, and each return cites the way
--- through the definition.
-use Rattle.std.proofs.Common.{◌≡◌, length, sym, ◌∙◌, arith, rules}
-use Rattle.node.specs.Nodes.{slot_count}
+-- `Node::next_frame` meets its contract: each return cites the way through the definition.
+use Rattle.std.proofs.Common.{refl, ap}
+use Rattle.wire.specs.Answers.{is_done}
+use Rattle.node.specs.Nodes.{as_given}
 use Rattle.node.specs.NextFrame.{has_frame}
-use Rattle.node.proofs.slots.Finding.{length_of_mapped, index_of, none_at_first, not_here, found_nowhere, found_here, no_slot}
-use Rattle.node.proofs.next_frame.Ways.{short_output, none_pending, frame_given}
+use Rattle.node.specs.Calls.{Call}
+use Rattle.node.proofs.Choices.{contrary}
+use Rattle.node.proofs.Answering.{was_refused, was_done, was_missed, was_found, hands_on}
+use Rattle.node.proofs.slots.Finding.{no_slot, place_found, place_missed}
+use Rattle.node.proofs.rollover.Promises.{promised_written}
+use Rattle.node.proofs.next_frame.Ways.{short_output, none_pending, joins, frame_given, payload_fits}
 use Rattle.node.proofs.Node.next_frame.Goals as goal
-use Rattle.node.proofs.Node.next_frame.Goals.{Left-loop-i, Start, else-loop-i-test, then-loop-i-test+then-has_frame}
-
--- the table is full length
-long : (c : Start) → length c.args.self.slots ≡ slot_count
-long c = search (rules, length_of_mapped)
 
 pub returns-then-out-lt-NEXT_ROOM : goal.returns-then-out-lt-NEXT_ROOM
 returns-then-out-lt-NEXT_ROOM c =
     let a = c.args in
-    let p = short_output a.out.now a.self c.if-out-lt-NEXT_ROOM.true in
+    let p = promised_written (Call.next_frame a.out.now) a.self.now as_given a.out.now (short_output _ _ c.if-out-lt-NEXT_ROOM.true) (refl, refl, refl) in
     record { exact = p.0; unbounded = p.1 }
 
-pub loop-i-init : goal.loop-i-init
-loop-i-init c = none_at_first _ _
-
-pub loop-i-preserved : goal.loop-i-preserved
-loop-i-preserved c =
-    not_here _ _ _ _ (omega (arith, long (goal.at.loop-i-preserved c).Start)) c.loop-i.invariant (sym c.has_frame.ensures ∙ c.if-has_frame.false)
-
--- the loop ends at the first slot with a frame
-found : (c : Left-loop-i) → c.before.loop-i.i ≡ index_of has_frame c.before.before.before.before.before.args.self.slots
-found c =
-    let all = long c.before.before.before.before.before in
-    elim c.loop-i-test.branch [ else-loop-i-test w ↦ found_nowhere _ _ _ (omega (arith, all)) c.before.loop-i.invariant | then-loop-i-test+then-has_frame w ↦ found_here _ _ _ no_slot (omega (arith, all)) c.before.loop-i.invariant (sym w.has_frame.ensures ∙ w.if-has_frame.true) ]
-
-pub returns-then-i-ge-SLOTS : goal.returns-then-i-ge-SLOTS
-returns-then-i-ge-SLOTS c =
+pub returns-in_err-i : goal.returns-in_err-i
+returns-in_err-i c =
     let a = c.args in
-    let p = none_pending a.out.now a.self c.if-out-lt-NEXT_ROOM.false _ (found (goal.at.returns-then-i-ge-SLOTS c).Left-loop-i) (omega (arith, long (goal.at.returns-then-i-ge-SLOTS c).Start)) in
+    let missed = was_missed _ _ c.in_err-i.ensures.value in
+    let none = place_missed has_frame a.self.now.slots c.place_of_frame.ensures missed.1 in
+    let p = promised_written (Call.next_frame a.out.now) a.self.now as_given a.out.now
+    (none_pending _ _ c.if-out-lt-NEXT_ROOM.false _ refl none)
+    (hands_on _ c.from_residual.ensures.1 missed.0, refl, refl) in
     record { exact = p.0; unbounded = p.1 }
+
+-- the identifier is never refused
+pub returns-in_err-id : goal.returns-in_err-id
+returns-in_err-id c =
+    let a = c.args in
+    let here = place_found has_frame a.self.now.slots c.place_of_frame.ensures (was_found _ _ c.in_ok-i.ensures.value) in
+    let said = was_refused _ _ c.in_err-id.ensures in
+    contrary (ap is_done (joins a.out.now a.self.now c.if-out-lt-NEXT_ROOM.false _ here.0 here.1 no_slot _ c.lowest_code-code.ensures)) said.1
 
 pub returns : goal.returns
 returns c =
     let a = c.args in
-    let p = frame_given a.out.now a.self c.if-out-lt-NEXT_ROOM.false _ (found (goal.at.returns c).Left-loop-i) (omega (arith, long (goal.at.returns c).Start)) _ _ c.lowest_code-code.ensures
-    _ _ _ _ c.join-joined.ensures c.given_out-t.ensures c.give_payload-len.ensures.short
-    c.give_payload-len.ensures.answer c.give_payload-len.ensures.output in
+    let here = place_found has_frame a.self.now.slots c.place_of_frame.ensures (was_found _ _ c.in_ok-i.ensures.value) in
+    let room = c.if-out-lt-NEXT_ROOM.false in
+    let code = c.lowest_code-code.ensures in
+    let id = (was_done _ _ c.in_ok-id.ensures).0 in
+    let gave = c.give_payload-len.ensures in
+    let fits = payload_fits a.out.now a.self.now room _ here.0 here.1 no_slot _ code gave.short in
+    let p = promised_written (Call.next_frame a.out.now) a.self.now as_given a.out.now
+    (frame_given _ _ room _ here.0 here.1 no_slot _ code _ _ id c.given_out.ensures)
+    (rw (gave.answer, fits) refl, refl, rw fits at gave.output) in
     record { exact = p.0; unbounded = p.1 }

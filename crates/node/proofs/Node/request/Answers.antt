@@ -1,54 +1,46 @@
--- `Node::request` meets its contract: the loop finds the slot's index, and each return cites the way through the definition.
-use Rattle.std.proofs.Common.{◌≡◌, ℕ, eqb, length, sym, ap, ◌∙◌, arith, rules, eq-eqb, ne_eqb}
+-- `Node::request` meets its contract: each return cites the way through the definition.
+use Rattle.std.proofs.Common.{refl}
 use Rattle.node.specs.Slots.{is_of}
-use Rattle.node.proofs.slots.Finding.{length_of_mapped, index_of, none_at_first, not_here, found_nowhere, found_here, no_slot}
+use Rattle.node.specs.Nodes.{as_answered}
+use Rattle.node.specs.Calls.{Call}
+use Rattle.node.proofs.Answering.{was_refused, was_done, was_missed, was_found, hands_on, refuses_with}
+use Rattle.node.proofs.slots.Finding.{no_slot, place_found, place_missed}
+use Rattle.node.proofs.rollover.Promises.{promised}
 use Rattle.node.proofs.request.Ways.{too_long, no_slot_law, slot_refuses, request_taken}
 use Rattle.node.proofs.Node.request.Goals as goal
-use Rattle.node.proofs.Node.request.Goals.{Left-loop-i, Start, else-loop-i-test, then-loop-i-test+then-is_of}
-
--- the table has 32 slots
-long : (c : Start) → length c.args.self.slots ≡ 32
-long c = search (rules, length_of_mapped)
 
 pub returns-then-payload-gt-MAX_LEN : goal.returns-then-payload-gt-MAX_LEN
 returns-then-payload-gt-MAX_LEN c =
     let a = c.args in
-    let p = too_long a.stream a.payload.now a.self c.if-payload-gt-MAX_LEN.true in
+    let p = promised (Call.request a.stream a.payload.now) a.self.now as_answered (too_long _ _ _ c.if-payload-gt-MAX_LEN.true) (refl, refl) in
     record { exact = p.0; unbounded = p.1 }
 
-pub loop-i-init : goal.loop-i-init
-loop-i-init c = none_at_first _ _
-
-pub loop-i-preserved : goal.loop-i-preserved
-loop-i-preserved c =
-    not_here _ _ _ _ (omega (arith, long (goal.at.loop-i-preserved c).Start)) c.loop-i.invariant (sym c.is_of.ensures ∙ c.if-is_of.false)
-
--- the loop ends at the stream's slot
-found : (c : Left-loop-i)
-    → c.before.loop-i.i ≡ index_of (is_of c.before.before.before.before.before.args.stream) c.before.before.before.before.before.args.self.slots
-found c =
-    let all = long c.before.before.before.before.before in
-    elim c.loop-i-test.branch [ else-loop-i-test w ↦ found_nowhere _ _ _ (omega (arith, all)) c.before.loop-i.invariant | then-loop-i-test+then-is_of w ↦ found_here _ _ _ no_slot (omega (arith, all)) c.before.loop-i.invariant (sym w.is_of.ensures ∙ w.if-is_of.true) ]
-
-pub returns-then-i-ge-SLOTS : goal.returns-then-i-ge-SLOTS
-returns-then-i-ge-SLOTS c =
+pub returns-in_err-i : goal.returns-in_err-i
+returns-in_err-i c =
     let a = c.args in
-    let p = no_slot_law a.stream a.payload.now a.self c.if-payload-gt-MAX_LEN.false _ (found (goal.at.returns-then-i-ge-SLOTS c).Left-loop-i) (omega (arith, long (goal.at.returns-then-i-ge-SLOTS c).Start)) in
+    let missed = was_missed _ _ c.in_err-i.ensures.value in
+    let none = place_missed (is_of a.stream) a.self.now.slots c.place_of.ensures missed.1 in
+    let p = promised (Call.request a.stream a.payload.now) a.self.now as_answered
+    (no_slot_law _ _ _ c.if-payload-gt-MAX_LEN.false _ refl none)
+    (hands_on _ c.from_residual.ensures.1 missed.0, refl) in
     record { exact = p.0; unbounded = p.1 }
 
-pub returns-then-number-ne0 : goal.returns-then-number-ne0
-returns-then-number-ne0 c =
+pub returns-in_err-check_request : goal.returns-in_err-check_request
+returns-in_err-check_request c =
     let a = c.args in
-    let p = slot_refuses a.stream a.payload.now a.self c.if-payload-gt-MAX_LEN.false _ (found (goal.at.returns-then-number-ne0 c).Left-loop-i) _ (omega (arith, long (goal.at.returns-then-number-ne0 c).Start)) _
-    c.request_reply-reply.ensures
-    (ap (λ (k : ℕ). eqb k 0) (sym c.number.ensures) ∙ ne_eqb _ _ c.if-number-ne0.true) in
+    let here = place_found (is_of a.stream) a.self.now.slots c.place_of.ensures (was_found _ _ c.in_ok-i.ensures.value) in
+    let said = was_refused _ _ c.in_err-check_request.ensures in
+    let p = promised (Call.request a.stream a.payload.now) a.self.now as_answered
+    (slot_refuses _ _ _ c.if-payload-gt-MAX_LEN.false _ here.0 no_slot here.1 _ refl said.1)
+    (refuses_with _ _ c.from_residual-in_err-check_request.ensures.1 said, refl) in
     record { exact = p.0; unbounded = p.1 }
 
 pub returns : goal.returns
 returns c =
     let a = c.args in
-    let p = request_taken a.stream a.payload.now a.self c.if-payload-gt-MAX_LEN.false _ (found (goal.at.returns c).Left-loop-i) _ (omega (arith, long (goal.at.returns c).Start)) _
-    c.request_reply-reply.ensures _
-    (ap (λ (k : ℕ). eqb k 0) (sym c.number.ensures) ∙ eq-eqb _ _ c.if-number-ne0.false)
-    c.requested-t.ensures in
+    let here = place_found (is_of a.stream) a.self.now.slots c.place_of.ensures (was_found _ _ c.in_ok-i.ensures.value) in
+    let said = was_done _ _ c.in_ok-check_request.ensures in
+    let p = promised (Call.request a.stream a.payload.now) a.self.now as_answered
+    (request_taken _ _ _ c.if-payload-gt-MAX_LEN.false _ here.0 no_slot here.1 _ refl _ said.1 c.requested.ensures)
+    (refl, refl) in
     record { exact = p.0; unbounded = p.1 }

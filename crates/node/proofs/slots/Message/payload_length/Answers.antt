@@ -9,4 +9,4 @@ eight_bytes c = search rules
 
 pub returns : goal.returns
 returns c =
-    c.at_most_payload.ensures ∙ sym (payload_length c.args.self (eight_bytes (goal.at.returns c).Start))
+    rw c.from.ensures at c.at_most_payload.ensures ∙ sym (payload_length c.args.self (eight_bytes (goal.at.returns c).Start))
