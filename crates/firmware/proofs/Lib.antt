@@ -1,5 +1,6 @@
 -- What is shown of the promises of firmware.
 pub mod Judging
+pub mod Answering
 pub mod LentAnswering
 pub mod Refusals
 pub mod Unique

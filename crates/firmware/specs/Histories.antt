@@ -5,7 +5,7 @@ use Rattle.wire.specs.Replies.{number_of}
 use Rattle.wire.specs.Delivered.{over}
 use Rattle.node.specs.declared.Node.{Node}
 use Rattle.node.specs.Told.{told_number}
-use Rattle.node.specs.Nodes.{fresh, Outcome, as_answered, as_heard, as_ticked, as_given}
+use Rattle.node.specs.Nodes.{fresh, Outcome}
 use Rattle.node.specs.Clock.{Clock, unbounded, rolled}
 use Rattle.node.specs.Calls.{Call, set_up, hear, tick, request, next_frame, outcome, after, roll}
 use Rattle.firmware.specs.declared.calls.AnsweredC.{AnsweredC}
@@ -24,15 +24,15 @@ Returned (next_frame output) = GivenC
 
 -- its promise, at a node: of what it returns, and of what it leaves in the lent output (set up and request are lent none)
 abbrev pub Promised : (c : Call) → Node → Returned c → (left : List ℕ) → Type 0
-Promised (set_up s settings) n r left = r ≡ answered_c (as_answered (outcome rolled (set_up s settings) n))
+Promised (set_up s settings) n r left = r ≡ answered_c (outcome rolled (set_up s settings) n)
 Promised (hear id dlc payload output) n r left =
-    (r ≡ heard_c (as_heard (outcome rolled (hear id dlc payload output) n)))
+    (r ≡ heard_c (outcome rolled (hear id dlc payload output) n))
     × (left ≡ over (outcome rolled (hear id dlc payload output) n).bytes output)
 Promised (tick output) n r left =
-    (r ≡ ticked_c (as_ticked (outcome rolled (tick output) n))) × (left ≡ over (outcome rolled (tick output) n).bytes output)
-Promised (request s payload) n r left = r ≡ answered_c (as_answered (outcome rolled (request s payload) n))
+    (r ≡ ticked_c (outcome rolled (tick output) n)) × (left ≡ over (outcome rolled (tick output) n).bytes output)
+Promised (request s payload) n r left = r ≡ answered_c (outcome rolled (request s payload) n)
 Promised (next_frame output) n r left =
-    (r ≡ given_c (as_given (outcome rolled (next_frame output) n))) × (left ≡ over (outcome rolled (next_frame output) n).bytes output)
+    (r ≡ given_c (outcome rolled (next_frame output) n)) × (left ≡ over (outcome rolled (next_frame output) n).bytes output)
 
 abbrev pub node_in : (c : Call) → Returned c → Node
 node_in (set_up s settings) r = r.node

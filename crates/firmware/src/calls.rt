@@ -1,7 +1,7 @@
 // The node's calls for C. The node goes in and comes back by value, and the reply is its number.
 ghost use Rattle.std.specs.Prelude.{◌≡◌};
 ghost use Rattle.wire.specs.Delivered.{over};
-ghost use Rattle.node.specs.Nodes.{fresh, as_answered, as_heard, as_ticked, as_given};
+ghost use Rattle.node.specs.Nodes.{fresh};
 ghost use Rattle.node.specs.Clock.{rolled};
 ghost use Rattle.node.specs.SetUp.{set_up};
 ghost use Rattle.node.specs.Hear.{hear};
@@ -11,6 +11,7 @@ ghost use Rattle.node.specs.NextFrame.{next_frame};
 ghost use Rattle.firmware.specs.Answers.{answered_c, heard_c, ticked_c, given_c};
 ghost use Rattle.firmware.specs.Judged.{in_numbers};
 
+use crate::answers::{NOTHING_GIVEN, NOTHING_HEARD, NOTHING_TICKED, number_of};
 use crate::judged::{SettingsC, dlc_of, settings_of};
 use node::Node;
 use wire::ids::{BusId, Stream};
@@ -61,89 +62,80 @@ pub extern "C" fn kosmydore_fresh() -> Node
     Node::fresh()
 }
 
-#[tactic(auto, using(crate::proofs::Judging::set_up_so))]
+#[tactic(auto, using(crate::proofs::Judging::set_up_so, crate::proofs::Answering::number_so))]
 #[unsafe(no_mangle)]
-pub extern "C" fn kosmydore_set_up(node: Node, stream: u32, settings: SettingsC) -> AnsweredC
-    ensures { result ≡ answered_c (as_answered (set_up (record { 0 = stream }) (in_numbers settings) node)) }
+pub extern "C" fn kosmydore_set_up(mut node: Node, stream: u32, settings: SettingsC) -> AnsweredC
+    ensures { result ≡ answered_c (set_up (record { 0 = stream }) (in_numbers settings) node) }
 {
-    let judged = settings_of(settings);
-    let answer = node.set_up(Stream(stream), judged);
-    let after = answer.node;
-    let reply = answer.reply;
-    AnsweredC {
-        node: after,
-        reply: reply.number(),
-    }
+    let answer = node.set_up(Stream(stream), settings_of(settings));
+    let reply = number_of(&answer);
+    AnsweredC { node, reply }
 }
 
-#[tactic(auto, using(crate::proofs::Judging::heard_so))]
+#[tactic(auto, using(crate::proofs::Judging::heard_so, crate::proofs::Answering::number_so))]
 #[unsafe(no_mangle)]
 pub extern "C" fn kosmydore_hear(
-    node: Node,
+    mut node: Node,
     id: u32,
     dlc: u32,
     payload: &[u8],
     out: &mut [u8],
 ) -> HeardC
-    ensures { (result ≡ heard_c (as_heard (hear (record { 0 = id }) dlc payload.now out.old node)))
+    ensures { (result ≡ heard_c (hear (record { 0 = id }) dlc payload.now out.old node))
         × (out.new ≡ over (hear (record { 0 = id }) dlc payload.now out.old node).bytes out.old) }
 {
-    let judged = dlc_of(dlc);
-    let answer = node.hear(BusId(id), judged, payload, out);
-    let after = answer.node;
-    let reply = answer.reply;
-    let told = answer.told;
+    let answer = node.hear(BusId(id), dlc_of(dlc), payload, out);
+    let reply = number_of(&answer);
+    let heard = answer.unwrap_or(NOTHING_HEARD);
     HeardC {
-        node: after,
-        reply: reply.number(),
-        told: told.number(),
-        written: answer.written,
+        node,
+        reply,
+        told: heard.told.number(),
+        written: heard.written,
     }
 }
 
+#[tactic(auto, using(crate::proofs::Answering::number_so))]
 #[unsafe(no_mangle)]
-pub extern "C" fn kosmydore_tick(node: Node, out: &mut [u8]) -> TickedC
-    ensures { (result ≡ ticked_c (as_ticked (tick rolled out.old node)))
+pub extern "C" fn kosmydore_tick(mut node: Node, out: &mut [u8]) -> TickedC
+    ensures { (result ≡ ticked_c (tick rolled out.old node))
         × (out.new ≡ over (tick rolled out.old node).bytes out.old) }
 {
     let answer = node.tick(out);
-    let after = answer.node;
-    let reply = answer.reply;
+    let reply = number_of(&answer);
+    let ticked = answer.unwrap_or(NOTHING_TICKED);
     TickedC {
-        node: after,
-        reply: reply.number(),
-        dropped: answer.dropped,
-        delivered: answer.delivered,
-        written: answer.written,
+        node,
+        reply,
+        dropped: ticked.dropped,
+        delivered: ticked.delivered,
+        written: ticked.written,
     }
 }
 
+#[tactic(auto, using(crate::proofs::Answering::number_so))]
 #[unsafe(no_mangle)]
-pub extern "C" fn kosmydore_request(node: Node, stream: u32, payload: &[u8]) -> AnsweredC
-    ensures { result ≡ answered_c (as_answered (request (record { 0 = stream }) payload.now node)) }
+pub extern "C" fn kosmydore_request(mut node: Node, stream: u32, payload: &[u8]) -> AnsweredC
+    ensures { result ≡ answered_c (request (record { 0 = stream }) payload.now node) }
 {
     let answer = node.request(Stream(stream), payload);
-    let after = answer.node;
-    let reply = answer.reply;
-    AnsweredC {
-        node: after,
-        reply: reply.number(),
-    }
+    let reply = number_of(&answer);
+    AnsweredC { node, reply }
 }
 
+#[tactic(auto, using(crate::proofs::Answering::number_so))]
 #[unsafe(no_mangle)]
-pub extern "C" fn kosmydore_next_frame(node: Node, out: &mut [u8]) -> GivenC
-    ensures { (result ≡ given_c (as_given (next_frame out.old node)))
+pub extern "C" fn kosmydore_next_frame(mut node: Node, out: &mut [u8]) -> GivenC
+    ensures { (result ≡ given_c (next_frame out.old node))
         × (out.new ≡ over (next_frame out.old node).bytes out.old) }
 {
     let answer = node.next_frame(out);
-    let after = answer.node;
-    let reply = answer.reply;
-    let id = answer.id;
+    let reply = number_of(&answer);
+    let given = answer.unwrap_or(NOTHING_GIVEN);
     GivenC {
-        node: after,
-        reply: reply.number(),
-        id: id.0,
-        len: answer.len,
+        node,
+        reply,
+        id: given.id.0,
+        len: given.len,
     }
 }

@@ -18,28 +18,25 @@ pub struct SettingsC {
     pub dd: u32,
 }
 
-// Above the highest DLC, and refused like every number there.
-const NO_DLC: u8 = MAX_DLC + 1;
+// Above the highest DLC, and refused like every number there. Kept as a number, and no Option: the node's call judges C's number.
+const NO_DLC: u32 = MAX_DLC as u32 + 1;
 
-// No role, so that these settings are refused.
+// No role, so that these settings are refused. Kept as a number too: the node's call says which fault comes first.
 const NO_ROLE: u8 = Settings::SEND + 1;
 
 // The highest numbers of one byte and of two.
-const MAX_ONE_BYTE: u32 = 255;
+const MAX_ONE_BYTE: u32 = u8::MAX as u32;
 
-const MAX_TWO_BYTES: u32 = 65535;
+const MAX_TWO_BYTES: u32 = u16::MAX as u32;
 
 pub(crate) fn dlc_of(dlc: u32) -> u8
     ensures { result ≡ dlc_of dlc }
 {
-    if dlc <= MAX_DLC as u32 {
-        dlc as u8
-    } else {
-        NO_DLC
-    }
+    dlc.min(NO_DLC) as u8
 }
 
-// Only whether the numbers fit is tested here: the node's call tests whether they are legal.
+// Only whether the numbers fit is tested here: the node's call tests whether they are legal. By one test, and not by a conversion of each that
+// may fail: which of them does is not told.
 #[tactic(auto, unfolding(crate::specs::Judged::settings_of))]
 pub(crate) fn settings_of(settings: SettingsC) -> Settings
     ensures { result ≡ settings_of settings }

@@ -10,6 +10,7 @@ ghost use Rattle.module.specs.Tallies.{has_count, counted_in};
 ghost use Rattle.firmware.specs.Judged.{in_numbers};
 ghost use Rattle.firmware.specs.Lent.{lent_heard_c, lent_ticked_c, given_out_c, Counts};
 
+use crate::answers::{NOTHING_GIVEN, NOTHING_HEARD, NOTHING_TICKED, counted, number_of};
 use crate::judged::{SettingsC, dlc_of, settings_of};
 use module::tally::count_in;
 use node_bytes::fresh::fresh;
@@ -58,16 +59,16 @@ pub extern "C" fn kosmydore_count(tally: &mut [u32], reply: u32) -> bool
 }
 
 // Writes the node before any call.
+#[tactic(auto, using(crate::proofs::Answering::number_so))]
 #[unsafe(no_mangle)]
 pub extern "C" fn kosmydore_module_fresh(bytes: &mut [u8]) -> u32
     ensures answer { result ≡ number_of (fresh_reply bytes.old) }
     ensures bytes { bytes.new ≡ fresh_in bytes.old }
 {
-    let reply = fresh(bytes);
-    reply.number()
+    number_of(&fresh(bytes))
 }
 
-#[tactic(auto, using(crate::proofs::LentAnswering::lent_set_up_so, crate::proofs::LentAnswering::leaves_so))]
+#[tactic(auto, using(crate::proofs::LentAnswering::lent_set_up_so, crate::proofs::LentAnswering::leaves_so, crate::proofs::Answering::number_so))]
 #[unsafe(no_mangle)]
 pub extern "C" fn kosmydore_module_set_up(
     bytes: &mut [u8],
@@ -80,14 +81,11 @@ pub extern "C" fn kosmydore_module_set_up(
     ensures tally { Counts (Call.set_up (record { 0 = stream }) (in_numbers settings))
         bytes.old tally.old tally.new }
 {
-    let judged = settings_of(settings);
-    let reply = set_up(bytes, Stream(stream), judged);
-    let number = reply.number();
-    count_in(tally, number);
-    number
+    let answer = set_up(bytes, Stream(stream), settings_of(settings));
+    counted(tally, &answer)
 }
 
-#[tactic(auto, using(crate::proofs::LentAnswering::lent_heard_so, crate::proofs::LentAnswering::leaves_so))]
+#[tactic(auto, using(crate::proofs::LentAnswering::lent_heard_so, crate::proofs::LentAnswering::leaves_so, crate::proofs::Answering::number_so))]
 #[unsafe(no_mangle)]
 pub extern "C" fn kosmydore_module_hear(
     bytes: &mut [u8],
@@ -107,19 +105,17 @@ pub extern "C" fn kosmydore_module_hear(
     ensures tally { Counts (Call.hear (record { 0 = id }) dlc payload.now out.old)
         bytes.old tally.old tally.new }
 {
-    let judged = dlc_of(dlc);
-    let answer = hear(bytes, BusId(id), judged, payload, out);
-    let reply = answer.reply;
-    let number = reply.number();
-    count_in(tally, number);
-    let told = answer.told;
+    let answer = hear(bytes, BusId(id), dlc_of(dlc), payload, out);
+    let reply = counted(tally, &answer);
+    let heard = answer.unwrap_or(NOTHING_HEARD);
     LentHeardC {
-        reply: number,
-        told: told.number(),
-        written: answer.written,
+        reply,
+        told: heard.told.number(),
+        written: heard.written,
     }
 }
 
+#[tactic(auto, using(crate::proofs::Answering::number_so))]
 #[unsafe(no_mangle)]
 pub extern "C" fn kosmydore_module_tick(
     bytes: &mut [u8],
@@ -133,17 +129,17 @@ pub extern "C" fn kosmydore_module_tick(
     ensures tally { Counts (Call.tick out.old) bytes.old tally.old tally.new }
 {
     let answer = tick(bytes, out);
-    let reply = answer.reply;
-    let number = reply.number();
-    count_in(tally, number);
+    let reply = counted(tally, &answer);
+    let ticked = answer.unwrap_or(NOTHING_TICKED);
     LentTickedC {
-        reply: number,
-        dropped: answer.dropped,
-        delivered: answer.delivered,
-        written: answer.written,
+        reply,
+        dropped: ticked.dropped,
+        delivered: ticked.delivered,
+        written: ticked.written,
     }
 }
 
+#[tactic(auto, using(crate::proofs::Answering::number_so))]
 #[unsafe(no_mangle)]
 pub extern "C" fn kosmydore_module_request(
     bytes: &mut [u8],
@@ -156,12 +152,11 @@ pub extern "C" fn kosmydore_module_request(
     ensures tally { Counts (Call.request (record { 0 = stream }) payload.now)
         bytes.old tally.old tally.new }
 {
-    let reply = request(bytes, Stream(stream), payload);
-    let number = reply.number();
-    count_in(tally, number);
-    number
+    let answer = request(bytes, Stream(stream), payload);
+    counted(tally, &answer)
 }
 
+#[tactic(auto, using(crate::proofs::Answering::number_so))]
 #[unsafe(no_mangle)]
 pub extern "C" fn kosmydore_module_next_frame(
     bytes: &mut [u8],
@@ -175,13 +170,11 @@ pub extern "C" fn kosmydore_module_next_frame(
     ensures tally { Counts (Call.next_frame out.old) bytes.old tally.old tally.new }
 {
     let answer = next_frame(bytes, out);
-    let reply = answer.reply;
-    let number = reply.number();
-    count_in(tally, number);
-    let id = answer.id;
+    let reply = counted(tally, &answer);
+    let given = answer.unwrap_or(NOTHING_GIVEN);
     GivenOutC {
-        reply: number,
-        id: id.0,
-        len: answer.len,
+        reply,
+        id: given.id.0,
+        len: given.len,
     }
 }

@@ -1,5 +1,5 @@
 // What the modules' C firmware calls: plain numbers in and out, for every value of each. A reply is
-// answered as the rules paper's number, and a value is 0 unless its reply is 0.
+// answered as the rules paper's number, and a value is 0 unless its reply is 0. Structs and numbers stay as C has them.
 #![tactic(auto)]
 
 ghost use Rattle.std.specs.Prelude.{◌≡◌};
@@ -8,62 +8,63 @@ ghost use Rattle.wire.specs.Identifiers.{join, split};
 ghost use Rattle.wire.specs.Delivered.{record_length};
 ghost use Rattle.firmware.specs.Boundary.{settings_reply};
 
+use crate::answers::number_of;
 use wire::delivered::record_length;
 use wire::ids::{BusId, Stream};
 use wire::reply::Reply;
 use wire::settings::legal_numbers;
 
+mod answers;
 pub mod calls;
 pub mod judged;
 pub mod lent;
 
 // The reply to joining a stream and a code.
+#[tactic(auto, using(crate::proofs::Answering::number_so))]
 #[unsafe(no_mangle)]
 pub extern "C" fn kosmydore_join_reply(stream: u32, code: u32) -> u32
     ensures { result ≡ number_of (join (record { 0 = stream }) code).reply }
 {
-    let answer = Stream(stream).join(code);
-    let reply = answer.reply;
-    reply.number()
+    number_of(&Stream(stream).join(code))
 }
 
 // The bus identifier of a stream and a code.
+#[tactic(auto, using(crate::proofs::Refusals::join_or))]
 #[unsafe(no_mangle)]
 pub extern "C" fn kosmydore_join(stream: u32, code: u32) -> u32
     ensures { result ≡ (join (record { 0 = stream }) code).id.0 }
 {
-    let joined = Stream(stream).join(code);
-    let id = joined.id;
+    let id = Stream(stream).join(code).unwrap_or(BusId(0));
     id.0
 }
 
 // The reply to splitting a bus identifier.
+#[tactic(auto, using(crate::proofs::Answering::number_so))]
 #[unsafe(no_mangle)]
 pub extern "C" fn kosmydore_split_reply(id: u32) -> u32
     ensures { result ≡ number_of (split (record { 0 = id })).reply }
 {
-    let answer = BusId(id).split();
-    let reply = answer.reply;
-    reply.number()
+    number_of(&BusId(id).split())
 }
 
 // The stream of a bus identifier.
+#[tactic(auto, using(crate::proofs::Refusals::split_or))]
 #[unsafe(no_mangle)]
 pub extern "C" fn kosmydore_split_stream(id: u32) -> u32
     ensures { result ≡ (split (record { 0 = id })).stream.0 }
 {
-    let parts = BusId(id).split();
-    let stream = parts.stream;
+    let (stream, _) = BusId(id).split().unwrap_or((Stream(0), 0));
     stream.0
 }
 
 // The code of a bus identifier.
+#[tactic(auto, using(crate::proofs::Refusals::split_or))]
 #[unsafe(no_mangle)]
 pub extern "C" fn kosmydore_split_code(id: u32) -> u32
     ensures { result ≡ (split (record { 0 = id })).code }
 {
-    let parts = BusId(id).split();
-    parts.code
+    let (_, code) = BusId(id).split().unwrap_or((Stream(0), 0));
+    code
 }
 
 // The reply to the settings of a stream.
@@ -95,20 +96,19 @@ pub extern "C" fn kosmydore_settings_reply(
 }
 
 // The reply to asking for the length of the record of a payload of this length.
+#[tactic(auto, using(crate::proofs::Answering::number_so))]
 #[unsafe(no_mangle)]
 pub extern "C" fn kosmydore_record_length_reply(payload_length: u32) -> u32
     ensures { result ≡ number_of (record_length payload_length).reply }
 {
-    let answer = record_length(payload_length);
-    let reply = answer.reply;
-    reply.number()
+    number_of(&record_length(payload_length))
 }
 
 // The length of the record of a payload of this length.
+#[tactic(auto, using(crate::proofs::Refusals::record_length_or))]
 #[unsafe(no_mangle)]
 pub extern "C" fn kosmydore_record_length(payload_length: u32) -> u32
     ensures { result ≡ (record_length payload_length).length }
 {
-    let record = record_length(payload_length);
-    record.length
+    record_length(payload_length).unwrap_or(0)
 }

@@ -1,4 +1,5 @@
 pub mod Places
+pub mod Replies
 pub mod Counts
 pub mod LentCounts
 pub mod Histories

@@ -1,19 +1,23 @@
 -- Each reply has its place in the tally, where its own number stands; and how it is computed: the numbers are two runs.
-use mathlib.Core.Path.{◌≡◌, refl}
+use mathlib.Core.Path.{◌≡◌, refl, sym, ap, ◌∙◌}
+use Rattle.std.proofs.Common.{Some, None, min}
+use Rattle.std.proofs.lemmas.Option.{cond_some}
 use mathlib.Core.Bool.{Bool, true, false, cond, ◌&&◌}
 use mathlib.Core.Logic.{◌⊎◌, inl, inr}
 use mathlib.Core.List.{List, [], ◌∷◌}
 use Prim.Native.Nat.{ℕ, zero, suc, ◌+◌, ◌-◌, ◌≤◌, ◌<◌}
 use native.Mathlib.Omega.{arith}
-use lib.ListN.{length, get_or}
+use lib.ListN.{length, get_or, set}
+use lib.Seq.{set-get_or}
 use lib.Dec.{eqb, ltb}
-use borrow.Author.Tests.{eqb-true, eqb-false, ne_eqb, ltb-true, ltb-false}
+use borrow.Author.Tests.{eqb-true, eqb-false, eq-eqb, ne_eqb, ltb-true, ltb-false, lt-ltb, le-ltb}
 use Rattle.wire.specs.declared.reply.Reply.{Reply}
 use Rattle.wire.specs.Replies.{number_of}
 use Rattle.wire.specs.Tells.{Tells, below, equal, ◌and◌}
 use Rattle.wire.specs.contracts.reply.Reply.{enum}
 use Rattle.wire.proofs.Variants.{at_each}
-use Rattle.module.specs.Tallies.{counted, position, place_of}
+use Rattle.module.specs.declared.tally.Tally.{Tally}
+use Rattle.module.specs.Tallies.{counted, position, place_in_tally, place_of, most, count_of, tallied, counted_in}
 
 -- ── runs of numbers ──
 -- so many numbers from one on, and then a list
@@ -89,3 +93,40 @@ has_place r = ((tells_place r).says (each_placed r)).0
 
 pub own_number : (r : Reply) → get_or counted (place_of r) 0 ≡ number_of r
 own_number r = ((tells_place r).says (each_placed r)).1
+
+-- the place of a number, where it has one
+module _ (n : ℕ) where
+  pub has_one : position n counted < length counted → place_in_tally n ≡ Some (position n counted)
+  has_one h = rw (lt-ltb _ _ h)
+
+  pub has_none : length counted ≤ position n counted → place_in_tally n ≡ None
+  has_none h = rw (le-ltb _ _ h)
+
+  pub found_place : {i : ℕ} → place_in_tally n ≡ Some i → (i ≡ position n counted) × (position n counted < length counted)
+  found_place e = let found = cond_some (ltb (position n counted) (length counted)) _ _ e in (sym found.1, ltb-true _ _ found.0)
+
+-- ── a count goes up by one, unless it is at the most ──
+pub raised : (counts : List ℕ) (i : ℕ) → get_or counts i 0 ≤ most
+    → set counts i (min (get_or counts i 0 + 1) most) ≡ cond (ltb (get_or counts i 0) most) (set counts i (get_or counts i 0 + 1)) counts
+raised counts i small = go (ltb (get_or counts i 0) most) refl
+  where
+    go : (b : Bool) → ltb (get_or counts i 0) most ≡ b
+        → set counts i (min (get_or counts i 0 + 1) most) ≡ cond b (set counts i (get_or counts i 0 + 1)) counts
+    go true e = let up : min (get_or counts i 0 + 1) most ≡ get_or counts i 0 + 1 = omega (arith, ltb-true _ _ e) in ap (set counts i) up
+    go false e =
+        let stays : min (get_or counts i 0 + 1) most ≡ get_or counts i 0 = omega (arith, ltb-false _ _ e) in ap (set counts i) stays ∙ set-get_or counts i 0
+
+pub raised_tally : (t : Tally) (r : Reply) → count_of r t ≤ most
+    → ◌≡◌ {A = Tally} (record { counts = set t.counts (place_of r) (min (count_of r t + 1) most) }) (tallied t r)
+unfolding tallied
+raised_tally t r small = ap (λ (l : List ℕ). record { counts = l }) (raised t.counts (place_of r) small) ∙ go (ltb (count_of r t) most)
+  where
+    go : (b : Bool) → ◌≡◌ {A = Tally} (record { counts = cond b (set t.counts (place_of r) (count_of r t + 1)) t.counts })
+        (cond b (record { counts = set t.counts (place_of r) (count_of r t + 1) }) t)
+    go true = refl
+    go false = refl
+
+pub raised_in : (n : ℕ) (counts : List ℕ) → length counts ≡ length counted → position n counted < length counted → get_or counts (position n counted) 0 ≤ most
+    → set counts (position n counted) (min (get_or counts (position n counted) 0 + 1) most) ≡ counted_in n counts
+unfolding counted_in
+raised_in n counts long inside small = rw (eq-eqb _ _ long, lt-ltb _ _ inside) (raised counts (position n counted) small)

@@ -1,6 +1,8 @@
 -- The tally: the numbers that it counts, what one more reply makes of it, and what it is after a list of replies.
 use Rattle.std.specs.Prelude.{ℕ, suc, ◌+◌, min, ◌≡◌, Bool, cond, ◌&&◌, List, [], ◌∷◌, map, length, get_or, set, replicate, eqb, ltb}
+use Rattle.std.specs.Prelude.{Option, Some, None, Result, Ok, Err}
 use Rattle.wire.specs.declared.reply.Reply.{Reply}
+use Rattle.wire.specs.declared.reply.Reply.TheVariants.{Done}
 use Rattle.wire.specs.Replies.{number_of}
 use Rattle.module.specs.declared.tally.Tally.{Tally}
 
@@ -12,6 +14,10 @@ counted = 0 ∷ 1 ∷ 2 ∷ 3 ∷ 4 ∷ 5 ∷ 6 ∷ 7 ∷ 8 ∷ 9 ∷ 10 ∷ 11 
 unfoldable pub position : ℕ → List ℕ → ℕ
 position n [] = 0
 position n (x ∷ xs) = cond (eqb x n) 0 (suc (position n xs))
+
+-- where the count of a number stands
+abbrev pub place_in_tally : ℕ → Option ℕ
+place_in_tally n = cond (ltb (position n counted) (length counted)) (Some (position n counted)) None
 
 -- where the count of a reply stands
 abbrev pub place_of : Reply → ℕ
@@ -27,6 +33,11 @@ zero_tally = record { counts = replicate (length counted) 0 }
 
 abbrev pub count_of : Reply → Tally → ℕ
 count_of r t = get_or t.counts (place_of r) 0
+
+-- the reply of a call that answers a Result
+abbrev pub reply_in : {A : Type 0} → Result A Reply → Reply
+reply_in (Ok value) = Done
+reply_in (Err reply) = reply
 
 -- the count of the reply goes up by one, unless it is at the most
 unfoldable pub tallied : Tally → Reply → Tally

@@ -1,76 +1,80 @@
-// The five calls of a module: each is the node's call, with its reply counted in the lent tally.
+// The five calls of a module: each is the node's call, with its reply counted in the tally. Kept as five: each has its own answer's type
+// and its own contract.
 ghost use Rattle.std.specs.Prelude.{◌≡◌};
 ghost use Rattle.wire.specs.Delivered.{over};
 ghost use Rattle.node.specs.Nodes.{as_answered, as_heard, as_ticked, as_given};
 ghost use Rattle.node.specs.Clock.{rolled};
-ghost use Rattle.node.specs.SetUp.{set_up};
-ghost use Rattle.node.specs.Hear.{hear};
-ghost use Rattle.node.specs.Tick.{tick};
-ghost use Rattle.node.specs.Request.{request};
-ghost use Rattle.node.specs.NextFrame.{next_frame};
-ghost use Rattle.module.specs.Tallies.{tallied};
+ghost use Rattle.node.specs.Calls.{Call, outcome};
+ghost use Rattle.module.specs.Histories.{after_call};
 
-use crate::tally::{Tally, count};
-use node::{Answered, Given, Heard, Node, Ticked};
+use crate::Module;
+use node::{Given, Heard, Ticked};
 use wire::ids::{BusId, Stream};
+use wire::reply::Reply;
 use wire::settings::Settings;
 
-// Gives a stream a slot, with its settings.
-pub fn set_up(node: Node, stream: Stream, settings: Settings, tally: &mut Tally) -> Answered
-    ensures { (result ≡ as_answered (set_up stream settings node))
-        × (tally.new ≡ tallied tally.old (set_up stream settings node).reply) }
-{
-    let answer = node.set_up(stream, settings);
-    count(tally, answer.reply);
-    answer
-}
+impl Module {
+    // Gives a stream a slot, with its settings.
+    #[tactic(auto, using(crate::proofs::Replies::reply_so))]
+    pub fn set_up(&mut self, stream: Stream, settings: Settings) -> Result<(), Reply>
+        ensures { (result ≡ as_answered (outcome rolled (Call.set_up stream settings) self.old.node))
+            × (self.new ≡ after_call (Call.set_up stream settings) self.old) }
+    {
+        let answer = self.node.set_up(stream, settings);
+        self.tally.count_answer(&answer);
+        answer
+    }
 
-// Takes in a frame that the controller received.
-pub fn hear(
-    node: Node,
-    id: BusId,
-    dlc: u8,
-    payload: &[u8],
-    out: &mut [u8],
-    tally: &mut Tally,
-) -> Heard
-    ensures { (result ≡ as_heard (hear id dlc payload.now out.old node))
-        × (out.new ≡ over (hear id dlc payload.now out.old node).bytes out.old)
-        × (tally.new ≡ tallied tally.old (hear id dlc payload.now out.old node).reply) }
-{
-    let answer = node.hear(id, dlc, payload, out);
-    count(tally, answer.reply);
-    answer
-}
+    // Takes in a frame that the controller received.
+    #[tactic(auto, using(crate::proofs::Replies::reply_so))]
+    pub fn hear(
+        &mut self,
+        id: BusId,
+        dlc: u8,
+        payload: &[u8],
+        out: &mut [u8],
+    ) -> Result<Heard, Reply>
+        ensures { (result ≡ as_heard (outcome rolled (Call.hear id dlc payload.now out.old) self.old.node))
+            × (out.new ≡ over (outcome rolled (Call.hear id dlc payload.now out.old) self.old.node).bytes out.old)
+            × (self.new ≡ after_call (Call.hear id dlc payload.now out.old) self.old) }
+    {
+        let answer = self.node.hear(id, dlc, payload, out);
+        self.tally.count_answer(&answer);
+        answer
+    }
 
-// Moves the counter by one; what is due is delivered, and what is late dropped.
-pub fn tick(node: Node, out: &mut [u8], tally: &mut Tally) -> Ticked
-    ensures { (result ≡ as_ticked (tick rolled out.old node))
-        × (out.new ≡ over (tick rolled out.old node).bytes out.old)
-        × (tally.new ≡ tallied tally.old (tick rolled out.old node).reply) }
-{
-    let answer = node.tick(out);
-    count(tally, answer.reply);
-    answer
-}
+    // Moves the counter by one; what is due is delivered, and what is late dropped.
+    #[tactic(auto, using(crate::proofs::Replies::reply_so))]
+    pub fn tick(&mut self, out: &mut [u8]) -> Result<Ticked, Reply>
+        ensures { (result ≡ as_ticked (outcome rolled (Call.tick out.old) self.old.node))
+            × (out.new ≡ over (outcome rolled (Call.tick out.old) self.old.node).bytes out.old)
+            × (self.new ≡ after_call (Call.tick out.old) self.old) }
+    {
+        let answer = self.node.tick(out);
+        self.tally.count_answer(&answer);
+        answer
+    }
 
-// Takes a message to send on one of the node's own streams.
-pub fn request(node: Node, stream: Stream, payload: &[u8], tally: &mut Tally) -> Answered
-    ensures { (result ≡ as_answered (request stream payload.now node))
-        × (tally.new ≡ tallied tally.old (request stream payload.now node).reply) }
-{
-    let answer = node.request(stream, payload);
-    count(tally, answer.reply);
-    answer
-}
+    // Takes a message to send on one of the node's own streams.
+    #[tactic(auto, using(crate::proofs::Replies::reply_so))]
+    pub fn request(&mut self, stream: Stream, payload: &[u8]) -> Result<(), Reply>
+        ensures { (result ≡ as_answered (outcome rolled (Call.request stream payload.now) self.old.node))
+            × (self.new ≡ after_call (Call.request stream payload.now) self.old) }
+    {
+        let answer = self.node.request(stream, payload);
+        self.tally.count_answer(&answer);
+        answer
+    }
 
-// Gives out the pending frame with the lowest bus identifier; it is pending no longer.
-pub fn next_frame(node: Node, out: &mut [u8], tally: &mut Tally) -> Given
-    ensures { (result ≡ as_given (next_frame out.old node))
-        × (out.new ≡ over (next_frame out.old node).bytes out.old)
-        × (tally.new ≡ tallied tally.old (next_frame out.old node).reply) }
-{
-    let answer = node.next_frame(out);
-    count(tally, answer.reply);
-    answer
+    // Gives out the pending frame with the lowest bus identifier; it is pending no longer.
+    #[tactic(auto, using(crate::proofs::Replies::reply_so))]
+    pub fn next_frame(&mut self, out: &mut [u8]) -> Result<Given, Reply>
+        ensures { (result ≡ as_given (outcome rolled (Call.next_frame out.old) self.old.node))
+            × (out.new ≡ over (outcome rolled (Call.next_frame out.old) self.old.node).bytes out.old)
+            × (self.new ≡ after_call (Call.next_frame out.old) self.old) }
+    {
+        let answer = self.node.next_frame(out);
+        self.tally.count_answer(&answer);
+        answer
+    }
 }

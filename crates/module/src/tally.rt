@@ -1,6 +1,6 @@
 // The tally: a count for each reply number that the node's calls answer.
 ghost use Rattle.std.specs.Prelude.{◌≡◌};
-ghost use Rattle.module.specs.Tallies.{counted, position, place_of, zero_tally, tallied, has_count, counted_in};
+ghost use Rattle.module.specs.Tallies.{counted, place_in_tally, place_of, zero_tally, reply_in, tallied, has_count, counted_in};
 
 use wire::reply::Reply;
 
@@ -14,7 +14,7 @@ impl Tally {
     // How many numbers are counted.
     pub const SIZE: usize = 17;
 
-    // The numbers that are counted, in the tally's order.
+    // The numbers that are counted, in the tally's order. A const has no contract: `numbers` promises what it is, and `zero` what ZERO is.
     pub const NUMBERS: [u32; Tally::SIZE] = [
         0, 1, 2, 3, 4, 5, 6, 7, 8, 9, 10, 11, 12, 18, 19, 20, 21,
     ];
@@ -28,9 +28,6 @@ impl Tally {
 
     pub const LEFT_OUT: u32 = 5;
 
-    // A count stays here once there.
-    pub const MOST: u32 = 4294967295;
-
     pub fn numbers() -> [u32; Tally::SIZE]
         ensures { result ≡ counted }
     {
@@ -43,55 +40,61 @@ impl Tally {
         Tally::ZERO
     }
 
-    // Where the count of a number stands; past the last, where it has none.
-    pub fn place_of(number: u32) -> usize
-        ensures { result ≡ position number counted }
+    // Where the count of a number stands, where it has one. Kept as a sum over the two runs of numbers: it is asked at each call, and a search
+    // would read up to seventeen. It is a number and no Reply: C hands it over so (`kosmydore_count`).
+    pub fn place_of(number: u32) -> Option<usize>
+        ensures { result ≡ place_in_tally number }
     {
         if number <= Tally::FIRST_END {
-            return number as usize;
+            return Some(number as usize);
         }
         if number <= Tally::FIRST_END + Tally::LEFT_OUT {
-            return Tally::SIZE;
+            return None;
         }
         let i = (number - Tally::LEFT_OUT) as usize;
         if i < Tally::SIZE {
-            return i;
+            return Some(i);
         }
-        Tally::SIZE
+        None
     }
 
-    // Where the count of a reply stands.
+    // Where the count of a reply stands: each has one.
     pub fn place(reply: Reply) -> usize
         ensures { result ≡ place_of reply }
     {
-        Tally::place_of(reply.number())
+        Tally::place_of(reply.number()).unwrap()
     }
 
-    // The tally with one more reply.
-    #[tactic(auto, using(crate::proofs::Places::has_place, std::proofs::lemmas::Bool::Decides::nat_tests), unfolding(crate::specs::Tallies::tallied))]
-    pub fn counted(mut self, reply: Reply) -> Tally
-        ensures { result ≡ tallied self reply }
+    // Counts one more reply; a count stays at the highest number once there.
+    #[tactic(auto, using(crate::proofs::Places::has_place))]
+    pub fn count(&mut self, reply: Reply)
+        ensures { self.new ≡ tallied self.old reply }
     {
         let i = Tally::place(reply);
-        let n = self.counts[i];
-        if n < Tally::MOST {
-            self.counts[i] = n + 1;
-            return self;
-        }
-        self
+        self.counts[i] = self.counts[i].saturating_add(1);
+    }
+
+    // Counts the reply of a call that answers a Result.
+    pub fn count_answer<T>(&mut self, answer: &Result<T, Reply>)
+        ensures { self.new ≡ tallied self.old (reply_in answer.now) }
+    {
+        self.count(reply_of(answer));
     }
 }
 
-// The tally brought up to date where it stands.
-pub fn count(tally: &mut Tally, reply: Reply)
-    ensures { tally.new ≡ tallied tally.old reply }
+// The reply of a call that answers a Result: Done, where it does not refuse.
+pub fn reply_of<T>(answer: &Result<T, Reply>) -> Reply
+    ensures { result ≡ reply_in answer.now }
 {
-    *tally = (*tally).counted(reply);
+    match answer {
+        Ok(_) => Reply::Done,
+        Err(reply) => *reply,
+    }
 }
 
 // A reply's number, counted in counts that their owner lends, in the order of `Tally::NUMBERS`; whether
 // it has a count there. Counts of another length than a tally's are left as they are, and so are all
-// counts where the number is none that is counted.
+// counts where the number is none that is counted. Kept with a number and a bool: C has both so (`kosmydore_count`).
 #[tactic(auto, using(std::proofs::lemmas::Bool::Decides::nat_tests), unfolding(crate::specs::Tallies::counted_in))]
 pub fn count_in(counts: &mut [u32], number: u32) -> bool
     ensures answer { result ≡ has_count number counts.old }
@@ -100,14 +103,9 @@ pub fn count_in(counts: &mut [u32], number: u32) -> bool
     if counts.len() != Tally::SIZE {
         return false;
     }
-    let i = Tally::place_of(number);
-    if i >= Tally::SIZE {
+    let Some(i) = Tally::place_of(number) else {
         return false;
-    }
-    let was = counts[i];
-    if was < Tally::MOST {
-        counts[i] = was + 1;
-        return true;
-    }
+    };
+    counts[i] = counts[i].saturating_add(1);
     true
 }

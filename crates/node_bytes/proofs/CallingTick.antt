@@ -1,24 +1,22 @@
 -- The tick of a lent node: its loop, stated of the nodes that the bytes are, and what its ways answer and leave.
 use mathlib.Core.Path.{◌≡◌, refl, sym, ap, ◌∙◌}
 use mathlib.Core.Bool.{Bool, true, false, cond}
-use mathlib.Core.List.{List, [], ◌++◌}
+use mathlib.Core.List.{List, ◌++◌}
+use Rattle.std.proofs.Common.{Ok}
 use Prim.Native.Nat.{ℕ, ◌+◌, ◌-◌, ◌≤◌, ◌<◌}
 use native.Mathlib.Omega.{arith}
-use borrow.Author.Tests.{lt-ltb}
 use lib.ListN.{length, take, drop, get_or, set}
 use lib.Seq.{set-set, get_or-set_same}
-use Rattle.wire.specs.declared.reply.Reply.TheVariants.{Done, BadLength, ShortOutput}
 use Rattle.wire.specs.Frames.{max_payload}
 use Rattle.wire.specs.Delivered.{record_of, over, fitting}
-use Rattle.wire.proofs.Refusing.{here}
 use Rattle.node.specs.declared.slots.Message.{Message}
 use Rattle.node.specs.declared.slots.Slot.{Slot}
 use Rattle.node.specs.declared.Node.{Node}
 use Rattle.node.specs.Slots.{empty, payload_of, frames, with_parts, with_message}
-use Rattle.node.specs.Nodes.{slot_count, with_slots, as_answered}
+use Rattle.node.specs.Nodes.{slot_count, with_slots, as_ticked}
 use Rattle.node.specs.Clock.{rolled}
 use Rattle.node.specs.Hear.{hear_room}
-use Rattle.node.specs.Tick.{tick_room, late, due, lapsed, dropped, delivered, age_of, record_from, ticked, tick}
+use Rattle.node.specs.Tick.{tick_room, late, due, lapsed, dropped, delivered, age_of, record_from, tick}
 use Rattle.node.specs.Calls.{Call}
 use Rattle.node.proofs.tick.Cases.{after_tick, tick_cases}
 use Rattle.node.proofs.tick.Stirring.{due_is_not_late, due_is_delivered}
@@ -27,12 +25,13 @@ use Rattle.node.proofs.tick.OnePass.{Counting, counting_at_first, all_counted, o
 use Rattle.node.proofs.tick.OnePass.{Writing, writing_at_first, all_written, one_is_not_due, written_is_small, one_is_written}
 use Rattle.node.proofs.slots.Payloads.{part_is_payload}
 use Rattle.node_bytes.specs.Layout.{node_size}
+use Rattle.node_bytes.specs.declared.tick.Lapse.{Lapse}
+use Rattle.node_bytes.specs.declared.tick.Lapse.TheVariants.{Stays, Dropped, Due}
 use Rattle.node_bytes.specs.Decoding.{slot_from, slot_at, decode}
 use Rattle.node_bytes.specs.Lent.{with_slot, with_counter}
-use Rattle.node_bytes.specs.LentCalls.{as_lent_ticked}
 use Rattle.node_bytes.proofs.ByIndex.{decoded_slot, decoded_length}
 use Rattle.node_bytes.proofs.Lapses.{Lapses, same_slot}
-use Rattle.node_bytes.proofs.Calling.{AllTold, all_told, refusal_told, no_node_law, as_node_law, call_done}
+use Rattle.node_bytes.proofs.Calling.{Told, call_done}
 
 -- ── a slot of which parts are stored ──
 module _ (bytes after : List ℕ) (i : ℕ) (inside : i < slot_count) (y : Slot)
@@ -112,8 +111,8 @@ module _ {now : ℕ} {bytes₀ out₀ bytes out : List ℕ} {i at dropped_before
               counting = counting;
             }
 
-  -- what was asked whether it is due, and lapses where it is not
-  module _ (asked : List ℕ) (lapse : ℕ) (l : Lapses (age_of rolled now (slot_at bytes i)) bytes asked i lapse) where
+  -- what became of its message
+  module _ (asked : List ℕ) (lapse : Lapse) (l : Lapses (age_of rolled now (slot_at bytes i)) bytes asked i lapse) where
     abbrev x : Slot
     x = slot_at bytes i
 
@@ -124,34 +123,32 @@ module _ {now : ℕ} {bytes₀ out₀ bytes out : List ℕ} {i at dropped_before
         → q ≡ delivered_before + cond due_now 1 0 → Counting rolled now (decode bytes₀).slots (i + 1) p q
     counts = one_counted t.counting empty h x (read_as_it_was x refl) age refl
 
-    is_not_due : (b : Bool) → (lapse ≡ 2 → ⊥) → lapse ≡ cond b 2 (cond (late age x) 1 0) → b ≡ false
-    is_not_due true other said = absurd (other said)
-    is_not_due false other said = refl
+    -- the tests that led to it
+    tests_of : (b c : Bool) → lapse ≡ cond b Due (cond c Dropped Stays)
+        → (lapse ≡ Stays → (b ≡ false) × (c ≡ false)) × (lapse ≡ Dropped → (b ≡ false) × (c ≡ true)) × (lapse ≡ Due → b ≡ true)
+    tests_of true c said = (λ e. (cc), λ e. (cc), λ e. refl)
+    tests_of false true said = (λ e. (cc), λ e. (refl, refl), λ e. (cc))
+    tests_of false false said = (λ e. (refl, refl), λ e. (cc), λ e. (cc))
 
-    few_dropped : (lapse ≡ 2 → ⊥) → lapse ≡ cond (late age x) 1 0
-    few_dropped other = rw (is_not_due (due age x) other l.0) at l.0
+    tests : (lapse ≡ Stays → (due age x ≡ false) × (late age x ≡ false)) × (lapse ≡ Dropped → (due age x ≡ false) × (late age x ≡ true))
+        × (lapse ≡ Due → due age x ≡ true)
+    tests = tests_of (due age x) (late age x) l.0
 
-    pub one_at_most : (lapse ≡ 2 → ⊥) → lapse ≤ 1
-    one_at_most other = go (late age x) (few_dropped other)
-      where
-        go : (t : Bool) → lapse ≡ cond t 1 0 → lapse ≤ 1
-        go true e = omega (arith, e)
-        go false e = omega (arith, e)
+    no_longer : due age x ≡ false → {p : ℕ} → Counting rolled now (decode bytes₀).slots (i + 1) p delivered_before
+        → Ticking now bytes₀ out₀ asked out (i + 1) at p delivered_before
+    no_longer e = slot_lapses x refl age refl (lapsed age x) refl asked (l.1, rw e at l.2) (not_due x refl age refl e)
 
-    pub not_due_lapses : (lapse ≡ 2 → ⊥) → Ticking now bytes₀ out₀ asked out (i + 1) at (dropped_before + lapse) delivered_before
-    not_due_lapses other =
-        let e = is_not_due (due age x) other l.0 in
-        slot_lapses x refl age refl (lapsed age x) refl asked (l.1, rw e at l.2) (not_due x refl age refl e)
-        (counts (late age x) false refl e _ _ (ap (λ (k : ℕ). dropped_before + k) (few_dropped other)) (omega arith))
+    pub stays_lapses : lapse ≡ Stays → Ticking now bytes₀ out₀ asked out (i + 1) at dropped_before delivered_before
+    stays_lapses is =
+        let (e, f) = tests.0 is in no_longer e (counts false false f e _ _ (omega arith) (omega arith))
 
-    is_due : lapse ≡ 2 → (b c : Bool) → lapse ≡ cond b 2 (cond c 1 0) → b ≡ true
-    is_due two true c said = refl
-    is_due two false true said = let z : ⊥ = omega (arith, two, said) in absurd z
-    is_due two false false said = let z : ⊥ = omega (arith, two, said) in absurd z
+    pub dropped_lapses : lapse ≡ Dropped → Ticking now bytes₀ out₀ asked out (i + 1) at (dropped_before + 1) delivered_before
+    dropped_lapses is =
+        let (e, f) = tests.1 is in no_longer e (counts true false f e _ _ refl (omega arith))
 
-    module _ (yes : lapse ≡ 2) where
+    module _ (is : lapse ≡ Due) where
       now_due : due age x ≡ true
-      now_due = is_due yes (due age x) (late age x) l.0
+      now_due = tests.2 is
 
       still : decode asked ≡ decode bytes
       still = (rw now_due at l.2) ∙ sym (same_slot bytes i h)
@@ -171,7 +168,7 @@ module _ {now : ℕ} {bytes₀ out₀ bytes out : List ℕ} {i at dropped_before
         long = length (payload_of x.message)
 
         abbrev as_lent : List ℕ
-        as_lent = record_of x.stream (take max_payload (take (long - 0) x.message.bytes))
+        as_lent = record_of x.stream (take max_payload (take long x.message.bytes))
 
         record_is : as_lent ≡ record_from x
         record_is = rw (part_is_payload x.message x.message.bytes (eight_bytes x refl) long refl)
@@ -192,37 +189,16 @@ module _ {now : ℕ} {bytes₀ out₀ bytes out : List ℕ} {i at dropped_before
             slot_lapses x refl age refl (delivered x) (due_is_delivered age x is) after (d.0 ∙ l.1, rw (same_here, still) at d.1) writes
             (counts false true (due_is_not_late age x is) is _ _ (omega arith) refl)
 
--- ── the call ──
-module _ (output bytes : List ℕ) where
-  abbrev call : Call
-  call = Call.tick output
+-- ── the call, of which the counter was stored, and then the slots were passed ──
+module _ (output bytes : List ℕ) (whole : length bytes ≡ node_size) (room : tick_room ≤ length output) (now : ℕ)
+    (e : now ≡ rolled.next (decode bytes).counter) (bytes₀ : List ℕ) (counted : decode bytes₀ ≡ with_counter now (decode bytes))
+    {after out : List ℕ} {i written dropped delivered : ℕ} (t : Ticking now bytes₀ output after out i written dropped delivered) (past : slot_count ≤ i) where
+  does : tick rolled output (decode bytes) ≡ after_tick output rolled (decode bytes)
+  does = (tick_cases output rolled (decode bytes)).accepted_if (record { room = room })
 
-  abbrev n : Node
-  n = decode bytes
-
-  pub tick_not_a_node : (length bytes ≡ node_size → ⊥) → AllTold call bytes as_lent_ticked output (record { reply = BadLength; written = 0; dropped = 0; delivered = 0 }) output bytes
-  tick_not_a_node other = refusal_told call bytes as_lent_ticked output BadLength (no_node_law call bytes other)
-
-  module _ (whole : length bytes ≡ node_size) where
-    pub tick_refused : length output < tick_room → AllTold call bytes as_lent_ticked output (record { reply = ShortOutput; written = 0; dropped = 0; delivered = 0 }) output bytes
-    tick_refused short =
-        refusal_told call bytes as_lent_ticked output ShortOutput
-        (as_node_law call bytes whole ∙ (tick_cases output rolled n).refused_if ShortOutput (here (lt-ltb _ _ short)))
-
-    -- the counter was stored, and then the slots were passed
-    module _ (room : tick_room ≤ length output) (now : ℕ) (e : now ≡ rolled.next n.counter) (bytes₀ : List ℕ)
-        (counted : decode bytes₀ ≡ with_counter now n) {after out : List ℕ} {i at dropped delivered : ℕ}
-        (t : Ticking now bytes₀ output after out i at dropped delivered) (past : slot_count ≤ i) where
-      does : tick rolled output n ≡ after_tick output rolled n
-      does = (tick_cases output rolled n).accepted_if (record { room = room })
-
-      left : decode after ≡ ticked rolled n
-      left = all_lapsed t.lapsing past ∙ rw (counted, e)
-
-      pub tick_is_done : AllTold call bytes as_lent_ticked output (record { reply = Done; written = at; dropped = dropped; delivered = delivered }) out after
-      tick_is_done =
-          let wrote = rw (counted, e) at (all_written t.writing past) in
-          let told = rw (counted, e) at (all_counted t.counting past) in
-          all_told call bytes as_lent_ticked output (as_node_law call bytes whole ∙ does)
-          (rw (wrote.0, told.0, told.1)) wrote.1
-          (call_done call bytes whole (ticked rolled n) [] after (ap as_answered (sym does)) (t.whole ∙ sym whole) left).1
+  pub tick_is_done : Told (Call.tick output) bytes as_ticked output (Ok (record { written = written; dropped = dropped; delivered = delivered })) out after
+  tick_is_done =
+      let wrote = rw (counted, e) at (all_written t.writing past) in
+      let tells = rw (counted, e) at (all_counted t.counting past) in
+      call_done (Call.tick output) bytes as_ticked output whole does refl (rw (wrote.0, tells.0, tells.1)) wrote.1 (t.whole ∙ sym whole)
+      (all_lapsed t.lapsing past ∙ rw (counted, e))

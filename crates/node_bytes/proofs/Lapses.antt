@@ -13,6 +13,8 @@ use Rattle.node.specs.Slots.{empty}
 use Rattle.node.specs.Nodes.{slot_count, with_slots}
 use Rattle.node.specs.Tick.{late, due, hold_over, lapsed}
 use Rattle.node.proofs.tick.Stirring.{Still, still_stays, other_is_not_over, unconfirmed_is_not_due}
+use Rattle.node_bytes.specs.declared.tick.Lapse.{Lapse}
+use Rattle.node_bytes.specs.declared.tick.Lapse.TheVariants.{Stays, Dropped, Due}
 use Rattle.node_bytes.specs.Decoding.{slot_at, decode}
 use Rattle.node_bytes.specs.Lent.{with_slot}
 use Rattle.node_bytes.proofs.ByIndex.{decoded_slot}
@@ -57,10 +59,10 @@ module _ (age : ℕ) (x : Slot) where
         go true false false e f g = rw (f, g) (simp and-false)
 
 -- ── what is left ──
--- slot i is due, and as it was, or has lapsed, and then so many messages were dropped of it
-abbrev pub Lapses : (age : ℕ) (bytes after : List ℕ) (i r : ℕ) → Type 0
+-- slot i is due, and as it was, or has lapsed
+abbrev pub Lapses : (age : ℕ) (bytes after : List ℕ) (i : ℕ) → Lapse → Type 0
 Lapses age bytes after i r =
-    (r ≡ cond (due age (slot_at bytes i)) 2 (cond (late age (slot_at bytes i)) 1 0)) × (length after ≡ length bytes)
+    (r ≡ cond (due age (slot_at bytes i)) Due (cond (late age (slot_at bytes i)) Dropped Stays)) × (length after ≡ length bytes)
     × (decode after ≡ with_slot i (cond (due age (slot_at bytes i)) (slot_at bytes i) (lapsed age (slot_at bytes i))) (decode bytes))
 
 module _ (bytes : List ℕ) (i : ℕ) (inside : i < slot_count) where
@@ -76,12 +78,12 @@ module _ (bytes : List ℕ) (i : ℕ) (inside : i < slot_count) where
     abbrev x : Slot
     x = slot_at bytes i
 
-    pub stays : Still age x → Lapses counted bytes bytes i 0
+    pub stays : Still age x → Lapses counted bytes bytes i Stays
     stays s =
-        let left : Lapses age bytes bytes i 0 = (rw (s.not_due, s.not_late), refl, rw (s.not_due, still_stays age x s) same_slot) in rw aged at left
+        let left : Lapses age bytes bytes i Stays = (rw (s.not_due, s.not_late), refl, rw (s.not_due, still_stays age x s) same_slot) in rw aged at left
 
     pub may_be_due : (is_due : Bool) → is_due ≡ due age x → late age x ≡ false → hold_over age x ≡ false
-        → (r : ℕ) → r ≡ cond is_due 2 0 → Lapses counted bytes bytes i r
+        → (r : Lapse) → r ≡ cond is_due Due Stays → Lapses counted bytes bytes i r
     may_be_due true e not_late not_over r said =
         let left : Lapses age bytes bytes i r = (rw (← e) said, refl, rw (← e) same_slot) in rw aged at left
     may_be_due false e not_late not_over r said =
@@ -89,6 +91,6 @@ module _ (bytes : List ℕ) (i : ℕ) (inside : i < slot_count) where
 
     pub lapses : due age x ≡ false → (y : Slot) → y ≡ lapsed age x → (after : List ℕ)
         → (length after ≡ length bytes) × (decode after ≡ with_slot i y (decode bytes))
-        → (r : ℕ) → r ≡ cond (late age x) 1 0 → Lapses counted bytes after i r
+        → (r : Lapse) → r ≡ cond (late age x) Dropped Stays → Lapses counted bytes after i r
     lapses not_due y made after put r said =
         let left : Lapses age bytes after i r = (rw not_due said, put.0, rw (not_due, ← made) put.1) in rw aged at left

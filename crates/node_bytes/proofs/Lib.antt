@@ -9,10 +9,10 @@ pub mod Stored
 pub mod PendingStored
 pub mod MessageStored
 pub mod Searching
+pub mod SettingUp
 pub mod Fitting
 pub mod Lent
 pub mod Calling
-pub mod CallingNext
 pub mod Lapses
 pub mod CallingTick
 pub mod LentHistories

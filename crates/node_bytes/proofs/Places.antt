@@ -1,11 +1,12 @@
 -- Numbers and rows at a place, byte by byte, as the code reads and stores them.
 use mathlib.Core.Path.{◌≡◌, refl, sym, ap, ◌∙◌}
 use mathlib.Core.List.{List, [], ◌∷◌, ◌++◌}
-use Prim.Native.Nat.{ℕ, zero, suc, ◌+◌, ◌*◌}
+use Prim.Native.Nat.{ℕ, zero, suc, ◌+◌, ◌*◌, ◌≤◌}
 use native.Mathlib.Nat.{zero-add}
 use native.Mathlib.Omega.{arith}
-use lib.ListN.{length, set}
-use lib.Seq.{sets}
+use lib.ListN.{length, take, drop}
+use lib.Seq.{sets, sets-eq, drop-cons, drop-drop}
+use Rattle.std.proofs.Common.{append_assoc}
 use Rattle.wire.specs.Frames.{max_payload}
 use Rattle.wire.specs.Delivered.{number_at}
 use Rattle.node.specs.declared.slots.Slot.{Slot}
@@ -29,17 +30,15 @@ module _ (bytes : List ℕ) (at : ℕ) where
   pub four_here : byte_at bytes at + 256 * (byte_at bytes (1 + at) + 256 * (byte_at bytes (2 + at) + 256 * byte_at bytes (3 + at))) ≡ number_at 4 bytes at
   four_here = rw (steps 1 at, steps 2 at, steps 3 at) (omega arith)
 
-  pub eight_here : (byte_at bytes at ∷ byte_at bytes (1 + at) ∷ byte_at bytes (2 + at) ∷ byte_at bytes (3 + at)
-      ∷ byte_at bytes (4 + at) ∷ byte_at bytes (5 + at) ∷ byte_at bytes (6 + at) ∷ byte_at bytes (7 + at) ∷ []) ≡ bytes_at 8 bytes at
-  eight_here = rw (steps 1 at, steps 2 at, steps 3 at, steps 4 at, steps 5 at, steps 6 at, steps 7 at)
+-- a part of some bytes, read and written as one
+pub part_here : (k : ℕ) (bytes : List ℕ) (at : ℕ) → k + at ≤ length bytes → take k (drop at bytes) ≡ bytes_at k bytes at
+part_here zero bytes at h = refl
+part_here (suc k) bytes at h = rw (drop-cons bytes at 0 (omega arith)) (ap (λ (l : List ℕ). byte_at bytes at ∷ l) (part_here k bytes (suc at) (omega arith)))
 
-  pub two_stored : (a b : ℕ) → set (set bytes at a) (1 + at) b ≡ sets bytes at (a ∷ b ∷ [])
-  two_stored a b = rw (steps 1 at)
-
-  pub eight_stored : (a b c d e f g h : ℕ)
-      → set (set (set (set (set (set (set (set bytes at a) (1 + at) b) (2 + at) c) (3 + at) d) (4 + at) e) (5 + at) f) (6 + at) g) (7 + at) h
-      ≡ sets bytes at (a ∷ b ∷ c ∷ d ∷ e ∷ f ∷ g ∷ h ∷ [])
-  eight_stored a b c d e f g h = rw (steps 1 at, steps 2 at, steps 3 at, steps 4 at, steps 5 at, steps 6 at, steps 7 at)
+pub part_stored : (out row part : List ℕ) (at k : ℕ) → part ≡ row → k ≡ length row → k + at ≤ length out
+    → take at out ++ (part ++ drop k (drop at out)) ≡ sets out at row
+part_stored out row part at k same e h =
+    rw (drop-drop k at out, same, e) (sym (append_assoc (take at out) row _) ∙ sym (sets-eq row out at (omega arith)))
 
 -- all bytes of a list
 one_later : (k : ℕ) (b : ℕ) (bytes : List ℕ) (at : ℕ) → bytes_at k (b ∷ bytes) (suc at) ≡ bytes_at k bytes at
@@ -64,7 +63,8 @@ rows_stored out at x eight =
 
 -- and the rows of a slot, each copied to its place
 pub rows_copied : (out bytes : List ℕ) (to from : ℕ)
-    → sets (sets (sets (sets out (stream_at + to) (bytes_at 8 bytes (stream_at + from))) (payload_pending_at + to) (bytes_at 8 bytes (payload_pending_at + from)))
+    → sets (sets (sets (sets out (stream_at + to) (bytes_at 8 bytes (stream_at + from)))
+    (payload_pending_at + to) (bytes_at 8 bytes (payload_pending_at + from)))
     (data_reach_at + to) (bytes_at 8 bytes (data_reach_at + from)))
     (payload_at + to) (bytes_at 8 bytes (payload_at + from))
     ≡ sets out to (bytes_at slot_size bytes from)

@@ -1,55 +1,52 @@
--- A loop that looks in the bytes for the first slot of which a test is true.
-use mathlib.Core.Path.{◌≡◌, refl, sym, ap, ◌∙◌}
-use mathlib.Core.Bool.{Bool, true, false, false≢true}
-use mathlib.Core.List.{List}
-use Prim.Native.Nat.{ℕ, ◌+◌, ◌≤◌, ◌<◌}
-use native.Mathlib.Omega.{arith}
-use borrow.Author.Tests.{ltb-true, ltb-false}
-use lib.ListN.{length, get_or}
-use lib.Dec.{ltb}
-use Rattle.wire.specs.declared.ids.Stream.{Stream}
+-- The search in the bytes for the first slot of which a test is true.
+use Rattle.std.proofs.Common.{◌≡◌, ℕ, ◌≤◌, ◌<◌, Bool, true, false, List, length, get_or, position, Option, Some, None, MatchOption, refl, ap, ◌∙◌, arith}
+use Rattle.std.specs.List.{position_or_len}
+use Rattle.std.specs.Option.{unwrap_or}
+use Rattle.std.proofs.lemmas.List.Sums.{position_or_len_is}
+use borrow.Author.Tests.{lt-ltb}
 use Rattle.node.specs.declared.slots.Slot.{Slot}
-use Rattle.node.specs.Slots.{empty, is_free}
+use Rattle.node.specs.Slots.{empty}
 use Rattle.node.specs.Nodes.{slot_count}
-use Rattle.node.proofs.slots.Finding.{index_of, found, before_first, NoneBefore, none_at_first, found_here, not_here, found_nowhere}
-use Rattle.node.proofs.set_up.Placing.{is_after}
+use Rattle.node.proofs.slots.Finding.{index_of, place_found, place_missed}
 use Rattle.node_bytes.specs.Decoding.{slot_at, decode}
 use Rattle.node_bytes.proofs.ByIndex.{decoded_slot, decoded_length}
 
 module _ (test : Slot → Bool) (bytes : List ℕ) where
-  -- it is true of none before i
-  abbrev pub NotYet : (i : ℕ) → Type 0
-  NotYet i = (i ≤ slot_count) × NoneBefore test (decode bytes).slots i
+  abbrev pub Passes : (i : ℕ) → Type 0
+  Passes i = test (slot_at bytes i) ≡ true
 
-  abbrev pub IsFirst : (i : ℕ) → Type 0
-  IsFirst i = i ≡ index_of test (decode bytes).slots
+  abbrev pub Fails : (i : ℕ) → Type 0
+  Fails i = test (slot_at bytes i) ≡ false
 
-  pub not_yet : NotYet 0
-  not_yet = (omega arith, none_at_first test (decode bytes).slots)
+  -- what a search from slot 0 on tells
+  abbrev pub Searched : Option ℕ → Type 0
+  Searched r =
+      MatchOption r ((k : ℕ) → 0 ≤ k → k < slot_count → Fails k)
+      (λ i. (0 ≤ i) × (i < slot_count) × Passes i × ((k : ℕ) → 0 ≤ k → k < i → Fails k))
 
-  module _ (i : ℕ) (before : NotYet i) where
-    -- what the code's test of slot i tells
-    module _ (inside : i < slot_count) {t : Bool} (tested : t ≡ test (slot_at bytes i)) where
-      here : {r : Bool} → t ≡ r → test (get_or (decode bytes).slots i empty) ≡ r
-      here e = ap test (decoded_slot bytes i empty inside) ∙ sym tested ∙ e
+  abbrev slots : List Slot
+  slots = (decode bytes).slots
 
-      pub it_is : t ≡ true → IsFirst i
-      it_is e = found_here test (decode bytes).slots i empty (omega (arith, decoded_length bytes)) before.1 (here e)
+  fails_there : (k : ℕ) → k < slot_count → Fails k → test (get_or slots k empty) ≡ false
+  fails_there k inside e = ap test (decoded_slot bytes k empty inside) ∙ e
 
-      pub it_is_not : t ≡ false → NotYet (i + 1)
-      it_is_not e = (omega arith, not_here test (decode bytes).slots i empty (omega (arith, decoded_length bytes)) before.1 (here e))
+  pub searched : (r : Option ℕ) → Searched r → r ≡ position test slots
+  searched None h =
+      let long = decoded_length bytes in
+      let e : position_or_len test slots ≡ slot_count =
+      position_or_len_is test slots slot_count empty (omega arith) (λ k below. fails_there k below (h k (omega arith) below))
+      (λ inside. absurd (omega arith)) in
+      rw (e, long)
+  searched (Some i) h =
+      let long = decoded_length bytes in
+      let e : position_or_len test slots ≡ i =
+      position_or_len_is test slots i empty (omega arith) (λ k below. fails_there k (omega arith) (h.3 k (omega arith) below))
+      (λ inside. ap test (decoded_slot bytes i empty h.1) ∙ h.2) in
+      rw (e, long, lt-ltb i slot_count h.1)
 
-    pub nowhere : slot_count ≤ i → IsFirst i
-    nowhere past = found_nowhere test (decode bytes).slots i (omega (arith, decoded_length bytes)) before.1
-
--- ── the place of a new slot ──
--- it is not behind the first free one
-pub place_before_free : (s : Stream) (l : List Slot) → index_of is_free l < length l → index_of (is_after s) l ≤ index_of is_free l
-place_before_free s l room = by_test (ltb (index_of is_free l) (index_of (is_after s) l)) refl
-  where
-    free : is_free (get_or l (index_of is_free l) empty) ≡ true
-    free = (found is_free l room).holds empty
-
-    by_test : (t : Bool) → ltb (index_of is_free l) (index_of (is_after s) l) ≡ t → index_of (is_after s) l ≤ index_of is_free l
-    by_test true e = absurd (false≢true (sym (before_first (is_after s) l (index_of is_free l) empty (ltb-true _ _ e)) ∙ rw free))
-    by_test false e = ltb-false _ _ e
+-- ── what was found ──
+-- where there is one, also as it is asked for
+pub found_or : (test : Slot → Bool) (l : List Slot) (o : Option ℕ) → o ≡ position test l → index_of test l < length l → (d : ℕ)
+    → unwrap_or o d ≡ index_of test l
+found_or test l None e inside d = absurd (omega (arith, place_missed test l e refl))
+found_or test l (Some i) e inside d = (place_found test l e refl).0

@@ -1,5 +1,6 @@
 -- The worked history is as worked.
 use Prim.Native.Nat.{ℕ}
+use Rattle.std.proofs.Common.{Ok, Err}
 use mathlib.Core.Path.{◌≡◌, refl}
 use mathlib.Core.List.{List, [], ◌∷◌}
 use lib.ListN.{length, replicate}
@@ -7,7 +8,6 @@ use Rattle.wire.specs.declared.reply.Reply.TheVariants.{Done, BadLength}
 use Rattle.wire.specs.Settings.{legal}
 use Rattle.wire.specs.Identifiers.{join}
 use Rattle.node.specs.Slots.{first, on_first, some, many}
-use Rattle.node.specs.Nodes.{no_id}
 use Rattle.node.specs.SetUp.{less_free, in_place, set_up}
 use Rattle.node.specs.Tick.{tick_room, late, due, hold_over, lapsed, due_slots, records_from, tick}
 use Rattle.node.specs.Request.{requested, request}
@@ -42,15 +42,15 @@ unfolding slot_from slots_at decode encode_slot encode fresh_in legal join first
 history_as_worked =
     record {
       run =
-          next ready Done [] after_set_up (refl, leaves_done refl refl refl)
-          (next request₅ Done [] after_request (refl, leaves_done refl refl refl)
-          (next moments.next (record { reply = Done; id = record { 0 = 20 }; len = 2 }) (0x0a ∷ 0x0b ∷ replicate 6 0) after_frame
+          next ready (Ok tt) [] after_set_up (refl, leaves_done refl refl refl)
+          (next request₅ (Ok tt) [] after_request (refl, leaves_done refl refl refl)
+          (next moments.next (Ok (record { id = record { 0 = 20 }; len = 2 })) (0x0a ∷ 0x0b ∷ replicate 6 0) after_frame
           ((refl, refl), leaves_done refl refl refl)
-          (next one_tick (record { reply = Done; written = 0; dropped = 0; delivered = 0 }) (replicate tick_room 0) after_tick ((refl, refl), leaves_done refl refl refl)
+          (next one_tick (Ok (record { written = 0; dropped = 0; delivered = 0 })) (replicate tick_room 0) after_tick ((refl, refl), leaves_done refl refl refl)
           start)));
       short =
-          next ready BadLength [] short (refl, short_left ready)
-          (next request₅ BadLength [] short (refl, short_left request₅)
-          (next moments.next (record { reply = BadLength; id = no_id; len = 0 }) (replicate next_room 0) short ((refl, refl), short_left moments.next)
-          (next one_tick (record { reply = BadLength; written = 0; dropped = 0; delivered = 0 }) (replicate tick_room 0) short ((refl, refl), short_left one_tick) start)));
+          next ready (Err BadLength) [] short (refl, short_left ready)
+          (next request₅ (Err BadLength) [] short (refl, short_left request₅)
+          (next moments.next (Err BadLength) (replicate next_room 0) short ((refl, refl), short_left moments.next)
+          (next one_tick (Err BadLength) (replicate tick_room 0) short ((refl, refl), short_left one_tick) start)));
     }

@@ -5,26 +5,12 @@ use Rattle.wire.specs.declared.reply.Reply.TheVariants.{Done, BadLength}
 use Rattle.node.specs.Nodes.{Outcome, refused}
 use Rattle.node.specs.Clock.{rolled}
 use Rattle.node.specs.Calls.{Call, outcome}
-use Rattle.node_bytes.specs.declared.hear.LentHeard.{LentHeard}
-use Rattle.node_bytes.specs.declared.tick.LentTicked.{LentTicked}
-use Rattle.node_bytes.specs.declared.next_frame.GivenOut.{GivenOut}
 use Rattle.node_bytes.specs.Decoding.{decode}
 use Rattle.node_bytes.specs.Lent.{is_node}
 
 -- what the call does to the node that the bytes are
 abbrev pub lent_outcome : Call → (bytes : List ℕ) → Outcome
 lent_outcome c bytes = cond (is_node bytes) (outcome rolled c (decode bytes)) (refused (decode bytes) BadLength)
-
--- as hear and tick answer it
-abbrev pub as_lent_heard : Outcome → LentHeard
-as_lent_heard o = record { reply = o.reply; written = length o.bytes; told = o.report.frame }
-
-abbrev pub as_lent_ticked : Outcome → LentTicked
-as_lent_ticked o = record { reply = o.reply; written = length o.bytes; dropped = o.report.dropped; delivered = o.report.delivered }
-
--- as the next frame answers it
-abbrev pub as_given_out : Outcome → GivenOut
-as_given_out o = record { reply = o.reply; id = o.id; len = length o.bytes }
 
 -- the bytes after it: the node's, in as many bytes; and after a refusal every byte is as it was
 pub record Leaves (c : Call) (before after : List ℕ) : Type 0 where

@@ -1,48 +1,57 @@
 -- A lent node over whole histories: a run of calls, each on the bytes that the call before left, of which nothing is known but that each kept its
 -- promise; and that their caller then sees what the definitions say with ticks counted without bound.
-use Rattle.std.specs.Prelude.{ℕ, ◌≡◌, true, false, List, [], ◌∷◌, map, length, take}
+use Rattle.std.specs.Prelude.{ℕ, ◌≡◌, true, false, List, [], ◌∷◌, map, length, take, Result, Ok, Err}
 use Rattle.wire.specs.declared.reply.Reply.{Reply}
-use Rattle.wire.specs.declared.reply.Reply.TheVariants.{BadLength}
+use Rattle.wire.specs.declared.reply.Reply.TheVariants.{Done, BadLength}
 use Rattle.wire.specs.Delivered.{over}
 use Rattle.node.specs.Told.{silent, of_frame, of_tick}
-use Rattle.node.specs.Nodes.{Outcome, no_id}
+use Rattle.node.specs.Nodes.{Outcome, no_id, as_answered, as_heard, as_ticked, as_given}
 use Rattle.node.specs.Clock.{unbounded, rolled}
 use Rattle.node.specs.Calls.{Call, set_up, hear, tick, request, next_frame, Answer, after, answers, roll}
-use Rattle.node_bytes.specs.declared.hear.LentHeard.{LentHeard}
-use Rattle.node_bytes.specs.declared.tick.LentTicked.{LentTicked}
-use Rattle.node_bytes.specs.declared.next_frame.GivenOut.{GivenOut}
+use Rattle.node.specs.declared.Heard.{Heard}
+use Rattle.node.specs.declared.Ticked.{Ticked}
+use Rattle.node.specs.declared.Given.{Given}
 use Rattle.node_bytes.specs.Layout.{node_size}
 use Rattle.node_bytes.specs.Decoding.{decode}
 use Rattle.node_bytes.specs.Lent.{is_node, fresh_in}
-use Rattle.node_bytes.specs.LentCalls.{lent_outcome, as_lent_heard, as_lent_ticked, as_given_out, Leaves}
+use Rattle.node_bytes.specs.LentCalls.{lent_outcome, Leaves}
 
 -- what a call on a lent node returns
 abbrev pub Returned : Call → Type 0
-Returned (set_up s settings) = Reply
-Returned (hear id dlc payload output) = LentHeard
-Returned (tick output) = LentTicked
-Returned (request s payload) = Reply
-Returned (next_frame output) = GivenOut
+Returned (set_up s settings) = Result (Unit {0}) Reply
+Returned (hear id dlc payload output) = Result Heard Reply
+Returned (tick output) = Result Ticked Reply
+Returned (request s payload) = Result (Unit {0}) Reply
+Returned (next_frame output) = Result Given Reply
 
 -- what it returns, and what it leaves in the lent output (set up and request are lent none), of this outcome
 abbrev pub Answers : (c : Call) → Outcome → Returned c → (left : List ℕ) → Type 0
-Answers (set_up s settings) o r left = r ≡ o.reply
-Answers (hear id dlc payload output) o r left = (r ≡ as_lent_heard o) × (left ≡ over o.bytes output)
-Answers (tick output) o r left = (r ≡ as_lent_ticked o) × (left ≡ over o.bytes output)
-Answers (request s payload) o r left = r ≡ o.reply
-Answers (next_frame output) o r left = (r ≡ as_given_out o) × (left ≡ over o.bytes output)
+Answers (set_up s settings) o r left = r ≡ as_answered o
+Answers (hear id dlc payload output) o r left = (r ≡ as_heard o) × (left ≡ over o.bytes output)
+Answers (tick output) o r left = (r ≡ as_ticked o) × (left ≡ over o.bytes output)
+Answers (request s payload) o r left = r ≡ as_answered o
+Answers (next_frame output) o r left = (r ≡ as_given o) × (left ≡ over o.bytes output)
 
 -- its promise, on these bytes: of what it returns, of the lent output, and of the bytes after it
 abbrev pub Promised : (c : Call) → (before : List ℕ) → Returned c → (left after : List ℕ) → Type 0
 Promised c before r left after = Answers c (lent_outcome c before) r left × Leaves c before after
 
+-- what the caller sees of a refusal
+abbrev pub refusal : Reply → Answer
+refusal r = record { reply = r; id = no_id; bytes = []; report = silent }
+
 -- what the caller sees: its reply, its identifier, the bytes that it says it wrote, and what it tells
 abbrev pub seen : (c : Call) → Returned c → (left : List ℕ) → Answer
-seen (set_up s settings) r left = record { reply = r; id = no_id; bytes = []; report = silent }
-seen (hear id dlc payload output) r left = record { reply = r.reply; id = no_id; bytes = take r.written left; report = of_frame r.told }
-seen (tick output) r left = record { reply = r.reply; id = no_id; bytes = take r.written left; report = of_tick r.dropped r.delivered }
-seen (request s payload) r left = record { reply = r; id = no_id; bytes = []; report = silent }
-seen (next_frame output) r left = record { reply = r.reply; id = r.id; bytes = take r.len left; report = silent }
+seen (set_up s settings) (Ok done) left = record { reply = Done; id = no_id; bytes = []; report = silent }
+seen (set_up s settings) (Err r) left = refusal r
+seen (hear id dlc payload output) (Ok h) left = record { reply = Done; id = no_id; bytes = take h.written left; report = of_frame h.told }
+seen (hear id dlc payload output) (Err r) left = refusal r
+seen (tick output) (Ok t) left = record { reply = Done; id = no_id; bytes = take t.written left; report = of_tick t.dropped t.delivered }
+seen (tick output) (Err r) left = refusal r
+seen (request s payload) (Ok done) left = record { reply = Done; id = no_id; bytes = []; report = silent }
+seen (request s payload) (Err r) left = refusal r
+seen (next_frame output) (Ok g) left = record { reply = Done; id = g.id; bytes = take g.len left; report = silent }
+seen (next_frame output) (Err r) left = refusal r
 
 -- from the lent bytes before some calls to those after them, and what was seen of each call
 pub data Run : (before : List ℕ) → List Call → List Answer → (end : List ℕ) → Type 0 where
@@ -66,7 +75,7 @@ EveryHistory =
 
 -- ── in a buffer of another length ──
 abbrev pub no_node : Answer
-no_node = record { reply = BadLength; id = no_id; bytes = []; report = silent }
+no_node = refusal BadLength
 
 -- fresh and every call leave every byte, and every call answers BadLength
 pub record Untouched (buffer : List ℕ) (calls : List Call) (xs : List Answer) (end : List ℕ) : Type 0 where

@@ -10,7 +10,7 @@ use crate::layout;
 use crate::layout::is_node;
 use crate::numbers::{put_two, two_at};
 
-// The counter, or 0 where the buffer has another length than a node's.
+// The counter, or 0 where the buffer has another length than a node's. Kept without a refusal: it promises so (specs/Lent.antt).
 pub fn read_counter(bytes: &[u8]) -> u16
     ensures { result ≡ read_counter bytes.now }
 {

@@ -1,4 +1,5 @@
-// Numbers, flags and rows of eight bytes, at a place of some bytes. Numbers have their lowest byte first.
+// Numbers, flags and rows of eight bytes, at a place of some bytes. Numbers have their lowest byte first. Kept as one function for each
+// width: so `from_le_bytes` and `to_le_bytes` are, and each promises its own.
 ghost use Rattle.std.specs.Prelude.{◌≡◌, ◌+◌, ◌≤◌, ◌<◌, cond, not, length, set};
 ghost use Rattle.std.proofs.lemmas.List.Edits.{sets};
 ghost use Rattle.wire.specs.Delivered.{number_at, little_endian};
@@ -17,50 +18,30 @@ pub(crate) fn two_at(bytes: &[u8], at: usize) -> u16
     requires { 2 + at ≤ length bytes.now }
     ensures { result ≡ number_at 2 bytes.now at }
 {
-    wide16(bytes[at]) + 256 * wide16(bytes[1 + at])
+    u16::from_le_bytes([bytes[at], bytes[1 + at]])
 }
 
 pub(crate) fn four_at(bytes: &[u8], at: usize) -> u32
     requires { 4 + at ≤ length bytes.now }
     ensures { result ≡ number_at 4 bytes.now at }
 {
-    wide32(bytes[at])
-        + 256
-            * (wide32(bytes[1 + at]) + 256 * (wide32(bytes[2 + at]) + 256 * wide32(bytes[3 + at])))
+    u32::from_le_bytes([bytes[at], bytes[1 + at], bytes[2 + at], bytes[3 + at]])
 }
 
 pub(crate) fn eight_at(bytes: &[u8], at: usize) -> [u8; 8]
     requires { 8 + at ≤ length bytes.now }
     ensures { result ≡ bytes_at 8 bytes.now at }
 {
-    [
-        bytes[at],
-        bytes[1 + at],
-        bytes[2 + at],
-        bytes[3 + at],
-        bytes[4 + at],
-        bytes[5 + at],
-        bytes[6 + at],
-        bytes[7 + at],
-    ]
+    let mut row = [0; 8];
+    row.copy_from_slice(&bytes[at..8 + at]);
+    row
 }
 
-pub(crate) fn wide16(x: u8) -> u16
-    ensures { (result ≡ x) × (result ≤ 255) }
-{
-    x as u16
-}
-
-fn wide32(x: u8) -> u32
-    ensures { (result ≡ x) × (result ≤ 255) }
-{
-    x as u32
-}
-
+// The byte of a flag. Kept as a function: that it is 1 or 0 is promised in one place, by the definition `flag`.
 pub(crate) fn flag(b: bool) -> u8
     ensures { result ≡ flag b }
 {
-    if b { 1 } else { 0 }
+    u8::from(b)
 }
 
 // Sets a flag that is `old`, where it changes.
@@ -69,14 +50,8 @@ pub(crate) fn put_flag(out: &mut [u8], at: usize, old: bool, new: bool)
     ensures { out.new
         ≡ cond new (cond (not old) (set out.old at 1) out.old) (cond old (set out.old at 0) out.old) }
 {
-    if new {
-        if !old {
-            out[at] = 1;
-        }
-        return;
-    }
-    if old {
-        out[at] = 0;
+    if old != new {
+        out[at] = flag(new);
     }
 }
 
@@ -84,20 +59,12 @@ pub(crate) fn put_two(out: &mut [u8], at: usize, n: u16)
     requires { 2 + at ≤ length out.old }
     ensures { out.new ≡ sets out.old at (little_endian 2 n) }
 {
-    out[at] = (n % 256) as u8;
-    out[1 + at] = (n / 256 % 256) as u8;
+    out[at..2 + at].copy_from_slice(&n.to_le_bytes());
 }
 
 pub(crate) fn put_eight(out: &mut [u8], at: usize, row: [u8; 8])
     requires { 8 + at ≤ length out.old }
     ensures { (out.new ≡ sets out.old at row) × (length out.new ≡ length out.old) }
 {
-    out[at] = row[0];
-    out[1 + at] = row[1];
-    out[2 + at] = row[2];
-    out[3 + at] = row[3];
-    out[4 + at] = row[4];
-    out[5 + at] = row[5];
-    out[6 + at] = row[6];
-    out[7 + at] = row[7];
+    out[at..8 + at].copy_from_slice(&row);
 }

@@ -1,5 +1,6 @@
 // A request to send, on a lent node.
 ghost use Rattle.std.specs.Prelude.{◌≡◌};
+ghost use Rattle.node.specs.Nodes.{as_answered};
 ghost use Rattle.node.specs.Calls.{Call};
 ghost use Rattle.node_bytes.specs.LentCalls.{lent_outcome, Leaves};
 
@@ -7,32 +8,25 @@ use crate::counter::counter_of;
 use crate::finding::find;
 use crate::layout;
 use crate::slots::{put_slot, slot_at};
-use node::Node;
 use node::slots::Message;
 use wire::ids::Stream;
 use wire::reply::Reply;
 
 // Takes a message to send on one of the node's own streams.
-pub fn request(bytes: &mut [u8], stream: Stream, payload: &[u8]) -> Reply
-    ensures answer { result ≡ (lent_outcome (Call.request stream payload.now) bytes.old).reply }
+pub fn request(bytes: &mut [u8], stream: Stream, payload: &[u8]) -> Result<(), Reply>
+    ensures answer { result ≡ as_answered (lent_outcome (Call.request stream payload.now) bytes.old) }
     ensures leaves { Leaves (Call.request stream payload.now) bytes.old bytes.new }
 {
     if bytes.len() != layout::NODE_SIZE {
-        return Reply::BadLength;
+        return Err(Reply::BadLength);
     }
     if payload.len() > Message::MAX_LEN {
-        return Reply::BadLength;
+        return Err(Reply::BadLength);
     }
-    let i = find(bytes, stream);
-    if i >= Node::SLOTS {
-        return Reply::NotSender;
-    }
-    let s = slot_at(bytes, i);
-    let reply = s.request_reply();
-    if reply.number() != 0 {
-        return reply;
-    }
-    let t = s.requested(counter_of(bytes), payload);
-    put_slot(bytes, i, t);
-    Reply::Done
+    let i = find(bytes, stream).ok_or(Reply::NotSender)?;
+    let slot = slot_at(bytes, i);
+    slot.check_request()?;
+    let requested = slot.requested(counter_of(bytes), payload);
+    put_slot(bytes, i, requested);
+    Ok(())
 }

@@ -1,7 +1,7 @@
 // Setting up a stream, on a lent node.
 ghost use Rattle.std.specs.Prelude.{◌≡◌, ◌≤◌, ◌<◌, length};
 ghost use Rattle.node.specs.Slots.{is_free};
-ghost use Rattle.node.specs.Nodes.{slot_count, with_slots};
+ghost use Rattle.node.specs.Nodes.{slot_count, with_slots, as_answered};
 ghost use Rattle.node.specs.Calls.{Call};
 ghost use Rattle.node.proofs.slots.Finding.{index_of};
 ghost use Rattle.node.proofs.set_up.Placing.{moved_up};
@@ -19,27 +19,24 @@ use wire::reply::Reply;
 use wire::settings::Settings;
 
 // Gives a stream a slot, with its settings.
-pub fn set_up(bytes: &mut [u8], stream: Stream, settings: Settings) -> Reply
-    ensures answer { result ≡ (lent_outcome (Call.set_up stream settings) bytes.old).reply }
+pub fn set_up(bytes: &mut [u8], stream: Stream, settings: Settings) -> Result<(), Reply>
+    ensures answer { result ≡ as_answered (lent_outcome (Call.set_up stream settings) bytes.old) }
     ensures leaves { Leaves (Call.set_up stream settings) bytes.old bytes.new }
 {
     if bytes.len() != layout::NODE_SIZE {
-        return Reply::BadLength;
+        return Err(Reply::BadLength);
     }
     if !settings.legal(stream) {
-        return Reply::BadSettings;
+        return Err(Reply::BadSettings);
     }
-    if find(bytes, stream) < Node::SLOTS {
-        return Reply::Taken;
+    if find(bytes, stream).is_some() {
+        return Err(Reply::Taken);
     }
-    let free = find_free(bytes);
-    if free >= Node::SLOTS {
-        return Reply::TableFull;
-    }
-    let place = find_place(bytes, stream);
+    let free = find_free(bytes).ok_or(Reply::TableFull)?;
+    let place = find_place(bytes, stream).unwrap_or(free);
     move_up(bytes, place, free);
     put_slot(bytes, place, Slot::set_up(stream, settings));
-    Reply::Done
+    Ok(())
 }
 
 // Moves the slots from a place on up, to the first free slot.
@@ -48,9 +45,7 @@ fn move_up(bytes: &mut [u8], place: usize, free: usize)
     ensures { (length bytes.new ≡ node_size)
         × (decode bytes.new ≡ with_slots (moved_up place (decode bytes.old).slots) (decode bytes.old)) }
 {
-    let mut i = free;
-    while i > place {
-        i -= 1;
+    for i in (place..free).rev() {
         copy_up(bytes, i);
     }
 }

@@ -13,14 +13,13 @@ ghost use Rattle.node_bytes.specs.Encoding.{key_row, state_row, reach_row, encod
 
 use crate::layout;
 use crate::layout::is_slot;
-use crate::numbers::{
-    eight_at, flag, flag_at, four_at, put_eight, put_flag, put_two, two_at, wide16,
-};
+use crate::numbers::{eight_at, flag, flag_at, four_at, put_eight, put_flag, put_two, two_at};
 use node::slots::{Message, Pending, Slot};
 use wire::ids::Stream;
 use wire::settings::Settings;
 
 // ── for every buffer and every index ──
+// Kept without a refusal: each promises what it reads where there is no such slot (specs/Lent.antt).
 
 // Slot i, or the empty slot where there is none.
 pub fn read_slot(bytes: &[u8], i: usize) -> Slot
@@ -156,6 +155,7 @@ pub(crate) fn frame_at(bytes: &[u8], i: usize) -> bool
     s.has_frame()
 }
 
+// One for each field, since each promises the field of the slot that it reads.
 pub(crate) fn held_at(bytes: &[u8], i: usize) -> bool
     requires { (length bytes.now ≡ node_size) × (i < slot_count) }
     ensures { result ≡ (slot_at bytes.now i).message.held }
@@ -175,14 +175,15 @@ pub(crate) const RECEIVES_IMD: u16 = 256;
 
 pub(crate) const RECEIVES_TWO_MESSAGE: u16 = 512;
 
-// Of slot i. One test of it is a test of both.
+// Of slot i. Kept as one number: one test of it is a test of both, in each slot that a tick asks (docs/COST.md).
+#[tactic(auto, unfolding(crate::specs::Decoding::slot_from))]
 pub(crate) fn kind_at(bytes: &[u8], i: usize) -> u16
     requires { (length bytes.now ≡ node_size) × (i < slot_count) }
     ensures { (result ≡ (slot_at bytes.now i).settings.role + 256 * (slot_at bytes.now i).settings.class)
         × ((slot_at bytes.now i).settings.role ≤ 255) }
 {
     let at = layout::SLOT_SIZE * i;
-    wide16(bytes[layout::ROLE + at]) + 256 * wide16(bytes[layout::CLASS + at])
+    two_at(bytes, layout::ROLE + at)
 }
 
 pub(crate) fn confirmed_at(bytes: &[u8], i: usize) -> bool
@@ -329,20 +330,17 @@ pub(crate) fn copy_up(bytes: &mut [u8], i: usize)
 fn key_row(slot: Slot) -> [u8; 8]
     ensures { result ≡ key_row slot }
 {
-    let s = slot.stream.0;
-    let s1 = s / 256;
-    let s2 = s1 / 256;
-    let s3 = s2 / 256;
-    let stamp = slot.message.stamp;
+    let s = slot.stream.0.to_le_bytes();
+    let stamp = slot.message.stamp.to_le_bytes();
     [
-        (s % 256) as u8,
-        (s1 % 256) as u8,
-        (s2 % 256) as u8,
-        (s3 % 256) as u8,
+        s[0],
+        s[1],
+        s[2],
+        s[3],
         flag(slot.used),
         flag(slot.message.held),
-        (stamp % 256) as u8,
-        (stamp / 256 % 256) as u8,
+        stamp[0],
+        stamp[1],
     ]
 }
 
@@ -364,14 +362,9 @@ fn state_row(slot: Slot) -> [u8; 8]
 fn reach_row(settings: Settings) -> [u8; 8]
     ensures { result ≡ reach_row settings }
 {
-    [
-        (settings.rd % 256) as u8,
-        (settings.rd / 256 % 256) as u8,
-        (settings.dc % 256) as u8,
-        (settings.dc / 256 % 256) as u8,
-        (settings.ra % 256) as u8,
-        (settings.ra / 256 % 256) as u8,
-        (settings.dd % 256) as u8,
-        (settings.dd / 256 % 256) as u8,
-    ]
+    let rd = settings.rd.to_le_bytes();
+    let dc = settings.dc.to_le_bytes();
+    let ra = settings.ra.to_le_bytes();
+    let dd = settings.dd.to_le_bytes();
+    [rd[0], rd[1], dc[0], dc[1], ra[0], ra[1], dd[0], dd[1]]
 }

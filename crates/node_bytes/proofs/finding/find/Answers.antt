@@ -1,20 +1,13 @@
--- `find` meets its contract: no slot before the loop's i is in use for the stream.
-use native.Mathlib.Omega.{arith}
+-- `find` meets its contract: what `find` says of the slots that it tests is what `position` means.
+use Rattle.std.proofs.Common.{rules, tests}
+use Rattle.std.proofs.lemmas.Iterator.{first_from_Range}
 use Rattle.node.specs.Slots.{is_of}
-use Rattle.node_bytes.proofs.Searching.{it_is, it_is_not, nowhere}
+use Rattle.node_bytes.proofs.Searching.{Passes, Fails, searched}
 use Rattle.node_bytes.proofs.finding.find.Goals as goal
-
-pub returns-then-of_at : goal.returns-then-of_at
-returns-then-of_at c =
-    let a = c.args in
-    it_is (is_of a.stream) a.bytes.now c.loop-i.i c.loop-i.invariant (omega arith) c.of_at.ensures c.if-of_at.true
-
-pub loop-i-preserved : goal.loop-i-preserved
-loop-i-preserved c =
-    let a = c.args in
-    it_is_not (is_of a.stream) a.bytes.now c.loop-i.i c.loop-i.invariant (omega arith) c.of_at.ensures c.if-of_at.false
 
 pub returns : goal.returns
 returns c =
-    let a = c.args in
-    nowhere (is_of a.stream) a.bytes.now c.loop-i.i c.loop-i.invariant (omega arith)
+    let bytes = c.args.bytes.now in
+    searched (is_of c.args.stream) bytes _
+    (first_from_Range _ _ _ _ (Passes (is_of c.args.stream) bytes) (Fails (is_of c.args.stream) bytes)
+    c.find.ensures.ran (λ x q k. search (rules, tests)) (λ x q k. search (rules, tests)))

@@ -1,20 +1,13 @@
--- `find_frame` meets its contract: no slot before the loop's i has a frame pending.
-use native.Mathlib.Omega.{arith}
+-- `find_frame` meets its contract: what `find` says of the slots that it tests is what `position` means.
+use Rattle.std.proofs.Common.{rules, tests}
+use Rattle.std.proofs.lemmas.Iterator.{first_from_Range}
 use Rattle.node.specs.NextFrame.{has_frame}
-use Rattle.node_bytes.proofs.Searching.{it_is, it_is_not, nowhere}
+use Rattle.node_bytes.proofs.Searching.{Passes, Fails, searched}
 use Rattle.node_bytes.proofs.finding.find_frame.Goals as goal
-
-pub returns-then-frame_at : goal.returns-then-frame_at
-returns-then-frame_at c =
-    let a = c.args in
-    it_is has_frame a.bytes.now c.loop-i.i c.loop-i.invariant (omega arith) c.frame_at.ensures c.if-frame_at.true
-
-pub loop-i-preserved : goal.loop-i-preserved
-loop-i-preserved c =
-    let a = c.args in
-    it_is_not has_frame a.bytes.now c.loop-i.i c.loop-i.invariant (omega arith) c.frame_at.ensures c.if-frame_at.false
 
 pub returns : goal.returns
 returns c =
-    let a = c.args in
-    nowhere has_frame a.bytes.now c.loop-i.i c.loop-i.invariant (omega arith)
+    let bytes = c.args.bytes.now in
+    searched has_frame bytes _
+    (first_from_Range _ _ _ _ (Passes has_frame bytes) (Fails has_frame bytes)
+    c.find.ensures.ran (λ x q k. search (rules, tests)) (λ x q k. search (rules, tests)))

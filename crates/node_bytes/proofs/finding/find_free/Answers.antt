@@ -1,20 +1,13 @@
--- `find_free` meets its contract: no slot before the loop's i is free.
-use native.Mathlib.Omega.{arith}
+-- `find_free` meets its contract: what `find` says of the slots that it tests is what `position` means.
+use Rattle.std.proofs.Common.{rules, tests}
+use Rattle.std.proofs.lemmas.Iterator.{first_from_Range}
 use Rattle.node.specs.Slots.{is_free}
-use Rattle.node_bytes.proofs.Searching.{it_is, it_is_not, nowhere}
+use Rattle.node_bytes.proofs.Searching.{Passes, Fails, searched}
 use Rattle.node_bytes.proofs.finding.find_free.Goals as goal
-
-pub returns-then-free_at : goal.returns-then-free_at
-returns-then-free_at c =
-    let a = c.args in
-    it_is is_free a.bytes.now c.loop-i.i c.loop-i.invariant (omega arith) c.free_at.ensures c.if-free_at.true
-
-pub loop-i-preserved : goal.loop-i-preserved
-loop-i-preserved c =
-    let a = c.args in
-    it_is_not is_free a.bytes.now c.loop-i.i c.loop-i.invariant (omega arith) c.free_at.ensures c.if-free_at.false
 
 pub returns : goal.returns
 returns c =
-    let a = c.args in
-    nowhere is_free a.bytes.now c.loop-i.i c.loop-i.invariant (omega arith)
+    let bytes = c.args.bytes.now in
+    searched is_free bytes _
+    (first_from_Range _ _ _ _ (Passes is_free bytes) (Fails is_free bytes)
+    c.find.ensures.ran (λ x q k. search (rules, tests)) (λ x q k. search (rules, tests)))

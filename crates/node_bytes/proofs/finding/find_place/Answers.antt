@@ -1,20 +1,13 @@
--- `find_place` meets its contract: no slot before the loop's i is free or of a higher stream.
-use native.Mathlib.Omega.{arith}
+-- `find_place` meets its contract: what `find` says of the slots that it tests is what `position` means.
+use Rattle.std.proofs.Common.{rules, tests}
+use Rattle.std.proofs.lemmas.Iterator.{first_from_Range}
 use Rattle.node.proofs.set_up.Placing.{is_after}
-use Rattle.node_bytes.proofs.Searching.{it_is, it_is_not, nowhere}
+use Rattle.node_bytes.proofs.Searching.{Passes, Fails, searched}
 use Rattle.node_bytes.proofs.finding.find_place.Goals as goal
-
-pub returns-then-after_at : goal.returns-then-after_at
-returns-then-after_at c =
-    let a = c.args in
-    it_is (is_after a.stream) a.bytes.now c.loop-i.i c.loop-i.invariant (omega arith) c.after_at.ensures c.if-after_at.true
-
-pub loop-i-preserved : goal.loop-i-preserved
-loop-i-preserved c =
-    let a = c.args in
-    it_is_not (is_after a.stream) a.bytes.now c.loop-i.i c.loop-i.invariant (omega arith) c.after_at.ensures c.if-after_at.false
 
 pub returns : goal.returns
 returns c =
-    let a = c.args in
-    nowhere (is_after a.stream) a.bytes.now c.loop-i.i c.loop-i.invariant (omega arith)
+    let bytes = c.args.bytes.now in
+    searched (is_after c.args.stream) bytes _
+    (first_from_Range _ _ _ _ (Passes (is_after c.args.stream) bytes) (Fails (is_after c.args.stream) bytes)
+    c.find.ensures.ran (λ x q k. search (rules, tests)) (λ x q k. search (rules, tests)))

@@ -1,8 +1,12 @@
--- `eight_at` meets its contract: the eight bytes, one after the other.
-use Rattle.node_bytes.proofs.Places.{eight_here}
+-- `eight_at` meets its contract: the part that was copied is the eight bytes.
+use native.Mathlib.Omega.{arith}
+use mathlib.Core.Path.{◌≡◌, ◌∙◌}
+use Prim.Native.Nat.{◌+◌, ◌-◌}
+use Rattle.node_bytes.proofs.Places.{part_here}
 use Rattle.node_bytes.proofs.numbers.eight_at.Goals as goal
 
 pub returns : goal.returns
 returns c =
     let a = c.args in
-    eight_here a.bytes.now a.at
+    let all : 8 + a.at - a.at ≡ 8 = omega arith in
+    rw all at c.copy_from_slice.ensures.after ∙ part_here 8 a.bytes.now a.at c.requires

@@ -9,7 +9,6 @@ use Rattle.node_bytes.specs.Decoding.{decode}
 use Rattle.node_bytes.proofs.set_up.move_up.Given as goal
 
 abbrev pub invariant-loop-i : goal.invariant-loop-i
-invariant-loop-i l = (l.place ≤ l.i) × (l.i ≤ l.free) × (length l.bytes ≡ node_size) × (decode l.bytes ≡ with_slots (moved_up l.i (decode l.initial.bytes).slots) (decode l.initial.bytes))
-
-abbrev pub decreases-loop-i : goal.decreases-loop-i
-decreases-loop-i l = l.i
+invariant-loop-i l =
+    (l.place ≤ l.i) × (l.i ≤ l.free) × (length l.bytes ≡ node_size)
+    × (decode l.bytes ≡ with_slots (moved_up l.i (decode l.initial.bytes).slots) (decode l.initial.bytes))

@@ -1,25 +1,23 @@
 -- `set_up` meets its contract: each return cites the way through the definition, of the node that the bytes are.
-use borrow.Author.Tests.{not-true, not-false}
-use native.Mathlib.Omega.{arith}
-use mathlib.Core.Path.{◌≡◌, sym, ◌∙◌}
-use mathlib.Core.List.{List, []}
-use Prim.Native.Nat.{ℕ, ◌≤◌, ◌<◌}
-use lib.ListN.{length}
-use Rattle.wire.specs.declared.reply.Reply.TheVariants.{BadSettings, TableFull, Taken}
+use Rattle.std.proofs.Common.{◌≡◌, ℕ, ◌<◌, ◌≤◌, List, [], length, refl, sym, ◌∙◌, arith, false, rules, ltb-true, ltb-false}
+use Rattle.std.specs.Option.{unwrap_or}
+use Rattle.wire.specs.Settings.{legal}
 use Rattle.node.specs.declared.Node.{Node}
-use Rattle.node.specs.Slots.{is_free}
-use Rattle.node.specs.Nodes.{slot_count}
+use Rattle.node.specs.Slots.{is_free, is_of}
+use Rattle.node.specs.Nodes.{as_answered}
 use Rattle.node.specs.Calls.{Call}
-use Rattle.node.proofs.slots.Finding.{index_of}
-use Rattle.node.proofs.set_up.Placing.{is_after}
-use Rattle.node.proofs.set_up.Ways.{bad_settings, stream_taken, table_full, stream_set}
+use Rattle.node.proofs.Answering.{was_missed, was_found, hands_on}
+use Rattle.node.proofs.slots.Finding.{index_of, is_there, place_found, place_missed}
+use Rattle.node.proofs.set_up.Placing.{is_after, after_or_free}
+use Rattle.node.proofs.set_up.Ways.{bad_settings, stream_taken, table_full}
 use Rattle.node_bytes.specs.Decoding.{decode}
 use Rattle.node_bytes.proofs.ByIndex.{decoded_length}
 use Rattle.node_bytes.proofs.Stored.{stored_length}
-use Rattle.node_bytes.proofs.Searching.{place_before_free}
+use Rattle.node_bytes.proofs.Searching.{found_or}
+use Rattle.node_bytes.proofs.SettingUp.{stream_stored}
 use Rattle.node_bytes.proofs.Calling.{not_a_node, call_refused, call_done}
 use Rattle.node_bytes.proofs.set_up.set_up.Goals as goal
-use Rattle.node_bytes.proofs.set_up.set_up.Goals.{Start}
+use Rattle.node_bytes.proofs.set_up.set_up.Goals.{Start, In_ok-free, After-find_place}
 
 -- ── the call ──
 module _ (s : Start) where
@@ -35,62 +33,72 @@ module _ (s : Start) where
 pub returns-then-bytes-ne-NODE_SIZE : goal.returns-then-bytes-ne-NODE_SIZE
 returns-then-bytes-ne-NODE_SIZE c =
     let s = (goal.at.returns-then-bytes-ne-NODE_SIZE c).Start in
-    let t = not_a_node (call s) (bytes s) c.if-bytes-ne-NODE_SIZE.true in
-    record { answer = t.0; leaves = t.1 }
+    let t = not_a_node (call s) (bytes s) as_answered [] c.if-bytes-ne-NODE_SIZE.true in
+    record { answer = t.0; leaves = t.1.1 }
 
 pub returns-then-not-legal : goal.returns-then-not-legal
 returns-then-not-legal c =
     let s = (goal.at.returns-then-not-legal c).Start in
-    let t = call_refused (call s) (bytes s) c.if-bytes-ne-NODE_SIZE.false BadSettings (bad_settings _ _ (node s) (sym c.legal.ensures ∙ not-true _ c.if-not-legal.true-raw)).0 in
-    record { answer = t.0; leaves = t.1 }
+    let bad : legal s.args.stream s.args.settings ≡ false = search rules in
+    let t = call_refused (call s) (bytes s) as_answered [] c.if-bytes-ne-NODE_SIZE.false (bad_settings _ _ (node s) bad) refl refl refl in
+    record { answer = t.0; leaves = t.1.1 }
 
 -- ── a node, and good settings ──
-pub returns-then-find-lt-SLOTS : goal.returns-then-find-lt-SLOTS
-returns-then-find-lt-SLOTS c =
-    let s = (goal.at.returns-then-find-lt-SLOTS c).Start in
-    let good = sym c.legal.ensures ∙ not-false _ c.if-not-legal.false-raw in
-    let t = call_refused (call s) (bytes s) c.if-bytes-ne-NODE_SIZE.false Taken
-    (stream_taken _ _ (node s) good _ c.find.ensures (omega (arith, decoded_length (bytes s)))).0 in
-    record { answer = t.0; leaves = t.1 }
+pub returns-then-is_some : goal.returns-then-is_some
+returns-then-is_some c =
+    let s = (goal.at.returns-then-is_some c).Start in
+    let good = sym c.legal.ensures ∙ c.if-not-legal.false in
+    let there = ltb-true _ _ (is_there (is_of s.args.stream) (node s).slots c.find.ensures ∙ (sym c.is_some.ensures ∙ c.if-is_some.true)) in
+    let t = call_refused (call s) (bytes s) as_answered [] c.if-bytes-ne-NODE_SIZE.false (stream_taken _ _ (node s) good _ refl there) refl refl refl in
+    record { answer = t.0; leaves = t.1.1 }
 
-pub returns-then-free-ge-SLOTS : goal.returns-then-free-ge-SLOTS
-returns-then-free-ge-SLOTS c =
-    let s = (goal.at.returns-then-free-ge-SLOTS c).Start in
-    let good = sym c.legal.ensures ∙ not-false _ c.if-not-legal.false-raw in
-    let long = decoded_length (bytes s) in
-    let t = call_refused (call s) (bytes s) c.if-bytes-ne-NODE_SIZE.false TableFull
-    (table_full _ _ (node s) good _ c.find.ensures (omega arith) _ c.find_free-free.ensures (omega arith)).0 in
-    record { answer = t.0; leaves = t.1 }
+pub returns-in_err-free : goal.returns-in_err-free
+returns-in_err-free c =
+    let s = (goal.at.returns-in_err-free c).Start in
+    let good = sym c.legal.ensures ∙ c.if-not-legal.false in
+    let new = ltb-false _ _ (is_there (is_of s.args.stream) (node s).slots c.find.ensures ∙ (sym c.is_some.ensures ∙ c.if-is_some.false)) in
+    let missed = was_missed _ _ c.in_err-free.ensures.value in
+    let full = place_missed is_free (node s).slots c.find_free.ensures missed.1 in
+    let t = call_refused (call s) (bytes s) as_answered [] c.if-bytes-ne-NODE_SIZE.false (table_full _ _ (node s) good _ refl new _ refl full) refl
+    (hands_on _ c.from_residual.ensures.1 missed.0) refl in
+    record { answer = t.0; leaves = t.1.1 }
 
 -- ── its place, and the first free slot ──
--- the place is at most the first free slot
-place_in_reach : (s : Start) (place free : ℕ) → place ≡ index_of (is_after s.args.stream) (node s).slots → free ≡ index_of is_free (node s).slots
-    → free < slot_count → place ≤ free
-place_in_reach s place free place_is free_is inside =
-    omega (arith, place_before_free s.args.stream (node s).slots (omega (arith, decoded_length (bytes s))))
+free : (c : In_ok-free) → (c.in_ok-free.free ≡ index_of is_free (decode c.before.args.bytes.now).slots)
+    × (c.in_ok-free.free < length (decode c.before.args.bytes.now).slots)
+free c = place_found _ _ c.before.find_free.ensures (was_found _ _ c.in_ok-free.ensures.value)
+
+place : (c : After-find_place) → (k : ℕ) → k ≡ unwrap_or c.find_place.result c.before.in_ok-free.free
+    → (k ≡ index_of (is_after c.before.args.stream) (decode c.before.args.bytes.now).slots) × (k ≤ c.before.in_ok-free.free)
+place c k e =
+    let f = free c.before in
+    let slots = (decode c.before.args.bytes.now).slots in
+    let reach = after_or_free c.before.args.stream slots in
+    let at = e ∙ found_or (is_after c.before.args.stream) slots _ c.find_place.ensures (omega (arith, f, reach)) c.before.in_ok-free.free in
+    (at, omega (arith, at, f, reach))
 
 pub move_up-requires : goal.move_up-requires
 move_up-requires c =
-    let s = (goal.at.move_up-requires c).Start in
-    (c.if-bytes-ne-NODE_SIZE.false, place_in_reach s _ _ c.find_place-place.ensures c.find_free-free.ensures (omega arith), omega arith, c.find_free-free.ensures)
+    let f = free (goal.at.move_up-requires c).In_ok-free in
+    let p = place (goal.at.move_up-requires c).After-find_place _ c.unwrap_or-place.ensures in
+    (c.if-bytes-ne-NODE_SIZE.false, p.1, omega (arith, f, decoded_length c.args.bytes.now), f.0)
 
 pub put_slot-requires : goal.put_slot-requires
 put_slot-requires c =
-    let s = (goal.at.put_slot-requires c).Start in
-    (c.move_up.ensures.0, omega (arith, place_in_reach s _ _ c.find_place-place.ensures c.find_free-free.ensures (omega arith)))
+    let f = free (goal.at.put_slot-requires c).In_ok-free in
+    let p = place (goal.at.put_slot-requires c).After-find_place _ c.unwrap_or-place.ensures in
+    (c.move_up.ensures.0, omega (arith, f, p, decoded_length c.args.bytes.now))
 
 pub returns : goal.returns
 returns c =
     let s = (goal.at.returns c).Start in
-    let good = sym c.legal.ensures ∙ not-false _ c.if-not-legal.false-raw in
     let whole = c.if-bytes-ne-NODE_SIZE.false in
-    let long = decoded_length (bytes s) in
-    let inside : c.find_free-free.result < length (node s).slots = omega arith in
-    let before_free = place_in_reach s _ _ c.find_place-place.ensures c.find_free-free.ensures (omega arith) in
-    let taken =
-    stream_set _ _ (node s) good _ c.find.ensures (omega arith) _ c.find_free-free.ensures
-    inside _ c.find_place-place.ensures before_free _ c.move_up.ensures.1 _ c.set_up.ensures in
-    let t = call_done (call s) (bytes s) whole _ [] _ taken.0
-    (stored_length c.move_up.new.bytes _ c.find_place-place.result c.set_up.result c.put_slot.ensures.0 ∙ c.move_up.ensures.0 ∙ sym whole)
+    let good = sym c.legal.ensures ∙ c.if-not-legal.false in
+    let new = ltb-false _ _ (is_there (is_of s.args.stream) (node s).slots c.find.ensures ∙ (sym c.is_some.ensures ∙ c.if-is_some.false)) in
+    let f = free (goal.at.returns c).In_ok-free in
+    let p = place (goal.at.returns c).After-find_place _ c.unwrap_or-place.ensures in
+    let does = stream_stored s.args.stream s.args.settings (node s) good new (omega (arith, f)) _ p.0 _ c.move_up.ensures.1 _ c.set_up.ensures in
+    let t = call_done (call s) (bytes s) as_answered [] whole does refl refl refl
+    (stored_length c.move_up.new.bytes _ c.unwrap_or-place.result c.set_up.result c.put_slot.ensures.0 ∙ c.move_up.ensures.0 ∙ sym whole)
     c.put_slot.ensures.1 in
-    record { answer = t.0; leaves = t.1 }
+    record { answer = t.0; leaves = t.1.1 }
