@@ -4,8 +4,7 @@ use mathlib.Core.Bool.{true, false}
 use mathlib.Core.List.{List, [], ◌∷◌}
 use Prim.Native.Nat.{ℕ}
 use Rattle.text.specs.Bytes.{index_of, index_after, slice}
-use Rattle.text.specs.declared.input.Kind.TheVariants.{Line, More, End}
-use Rattle.text.specs.Input.{step_of}
+use Rattle.text.specs.Input.{Line, More, End, step_of}
 use Rattle.text.specs.Words.{word_at, done_at}
 use Rattle.text.specs.Numbers.{no_number, number_of, number_at, decimal_text}
 use Rattle.text.specs.Payloads.{is_payload, payload_bytes, payload_of}

@@ -1,29 +1,34 @@
--- Laws on the search for a byte: what the bytes from an index on say of the first one that is sought.
-use Prim.Native.Nat.{ℕ, suc, ◌+◌, ◌<◌, ◌≤◌}
-use native.Mathlib.Numerals.{add-one}
+-- Laws on the search for a byte.
+use Prim.Native.Nat.{ℕ, ◌<◌, ◌≤◌}
 use native.Mathlib.Omega.{arith}
-use mathlib.Core.Path.{◌≡◌, ◌∙◌}
-use Rattle.std.specs.Prelude.{◌≢◌}
-use mathlib.Core.List.{List, ◌∷◌}
-use lib.ListN.{length, take, get_or, length-take, drop_of_length-le}
-use lib.Seq.{drop-cons}
-use borrow.Author.Tests.{eq-eqb, ne_eqb}
-use Rattle.std.proofs.lemmas.List.{get_or-take}
-use Rattle.text.specs.Bytes.{index_of, index_after, slice}
+use mathlib.Core.Path.{◌≡◌, refl, sym}
+use mathlib.Core.Bool.{Bool, true, false, cond}
+use mathlib.Core.List.{List}
+use lib.Dec.{ltb}
+use lib.ListN.{length}
+use borrow.Author.Tests.{ltb-true, ltb-false}
+use Rattle.std.specs.Prelude.{◌==◌, position, None, Some}
+use Rattle.text.specs.Bytes.{index_of}
+use Rattle.text.proofs.WordLaws.{index_by_position}
 
-module _ (b : ℕ) (s : List ℕ) (i to : ℕ) (within : to ≤ length s) (here : i < to) where
-  opened : slice i to s ≡ get_or s i 0 ∷ slice (suc i) to s
-  unfolding slice
-  opened = drop-cons (take to s) i 0 (simp length-take (omega arith)) ∙ rw (get_or-take to s i 0 here)
+found_in : (k m n : ℕ) (t : Bool) → ltb k m ≡ t → cond t (Some k) None ≡ Some n → (n ≡ k) × (n < m)
+found_in k m n true h e =
+    let i : n ≡ k = cc in (i, omega (arith, i, ltb-true k m h))
+found_in k m n false h e = cc
 
-  pub at_hand : get_or s i 0 ≡ b → i ≡ i + index_of b (slice i to s)
-  unfolding index_of index_after
-  at_hand e = rw (opened, eq-eqb _ _ e) (omega arith)
+not_found_in : (k m : ℕ) (t : Bool) → ltb k m ≡ t → cond t (Some k) None ≡ None → m ≤ k
+not_found_in k m true h e = cc
+not_found_in k m false h e = ltb-false k m h
 
-  pub further : get_or s i 0 ≢ b → i + 1 + index_of b (slice (i + 1) to s) ≡ i + index_of b (slice i to s)
-  unfolding index_of index_after
-  further n = rw (opened, ne_eqb _ _ n, add-one i) (omega arith)
+found_by : (k m n : ℕ) → cond (ltb k m) (Some k) None ≡ Some n → (n ≡ k) × (n < m)
+found_by k m n e = found_in k m n (ltb k m) refl e
 
-pub nowhere : (b : ℕ) (s : List ℕ) (i to : ℕ) → to ≤ length s → to ≤ i → index_of b (slice i to s) ≡ 0
-unfolding index_of slice
-nowhere b s i to within past = rw (drop_of_length-le (take to s) {i = i} (simp length-take (omega arith)))
+not_found_by : (k m : ℕ) → cond (ltb k m) (Some k) None ≡ None → m ≤ k
+not_found_by k m e = not_found_in k m (ltb k m) refl e
+
+-- where one is found, it is the first; where none is, there is none
+pub found_at : (b : ℕ) (s : List ℕ) (n : ℕ) → position (λ x. x == b) s ≡ Some n → (n ≡ index_of b s) × (n < length s)
+found_at b s n e = found_by _ _ n (rw (sym (index_by_position b s)) at e)
+
+pub not_found : (b : ℕ) (s : List ℕ) → position (λ x. x == b) s ≡ None → length s ≤ index_of b s
+not_found b s e = not_found_by _ _ (rw (sym (index_by_position b s)) at e)

@@ -10,9 +10,8 @@ use lib.Seq.{take-length, take-take, drop-drop, length-slice}
 use borrow.Author.Tests.{lt-ltb, eqb-true}
 use Rattle.text.specs.Bytes.{index_of, index_after, slice}
 use Rattle.text.specs.Buffer.{size}
-use Rattle.text.specs.Input.{stop_of, start_of, unread, end_of, line_of, step_of, line_in, over_of, kept_of, Refilled}
+use Rattle.text.specs.Input.{Input, stop_of, start_of, unread, end_of, line_of, step_of, line_in, over_of, kept_of, Refilled}
 use Rattle.text.specs.Words.{word_at, bytes_at}
-use Rattle.text.specs.declared.input.Input.{Input}
 use Rattle.text.proofs.InputLaws.{part_of}
 
 -- a list in which b stands is what comes before the first b, that b, and what comes behind it

@@ -1,77 +1,22 @@
--- Laws on lines of input: one for each way through `text::input::Input::next`, and those for the move and the read of `refill`.
+-- Laws on the bytes at hand: on those that a read keeps, and on parts that are cut to what is there.
 use Prim.Native.Nat.{ℕ, ◌+◌, ◌-◌, ◌<◌, ◌≤◌, min}
-use native.Mathlib.Numerals.{add-one}
 use native.Mathlib.Omega.{arith}
 use mathlib.Core.Path.{◌≡◌, refl, sym, ap, ◌∙◌}
-use mathlib.Core.Bool.{Bool, true, false, cond, ◌||◌, ◌&&◌}
-use mathlib.Core.List.{List, ◌++◌}
-use lib.Dec.{ltb, leb, eqb}
-use lib.ListN.{length, take, drop, get_or, set, length-drop}
-use lib.Seq.{take_all, take-length, take-suc, take-suc-set, take_at, take-add, take-take, length-take-le, drop_at, drop-set-lt, drop-drop, get_or-drop}
-use borrow.Author.Tests.{lt-ltb, le-ltb, leb-true, leb-false}
-use Rattle.text.specs.Bytes.{index_of, slice}
+use mathlib.Core.Bool.{Bool, true, false, cond, ◌&&◌}
+use mathlib.Core.List.{List}
+use lib.Dec.{leb, eqb}
+use lib.ListN.{length, take, drop, length-drop}
+use lib.Seq.{take_all, take-length, take-add, length-take-le, length-slice, drop_at}
+use borrow.Author.Tests.{leb-true, leb-false, eqb-false, lt-ltb}
+use Rattle.std.specs.Prelude.{None, Some, is_some}
+use Rattle.std.proofs.lemmas.Bool.{or_parts}
+use Rattle.text.specs.Bytes.{slice}
 use Rattle.text.specs.Buffer.{size}
-use Rattle.text.specs.Input.{stop_of, start_of, end_of, kind_of, step_of, kept_of, Refilled}
-use Rattle.text.specs.Window.{bytes_in, WindowRead}
-use Rattle.text.specs.declared.window.Window.{Window}
-use Rattle.text.specs.declared.input.Input.{Input}
-use Rattle.text.specs.declared.input.Step.{Step}
-use Rattle.text.specs.declared.input.Kind.{Kind}
-use Rattle.text.specs.declared.input.Kind.TheVariants.{More, End}
-
--- what `next` finds first: the unread bytes of s are from..to, and the line at hand ends at index e
-pub record Found (s : List ℕ) (i : Input) (from to e : ℕ) : Type 0 where
-  pub stop : to ≡ min i.to size
-  pub start : from ≡ min i.from to
-  pub line : e ≡ from + index_of 10 (slice from to s)
-
--- the four ways on from there
-module _ {s : List ℕ} {i : Input} {from to e : ℕ} (f : Found s i from to e) where
-  newline : e < to → ltb (end_of s i) (stop_of i) ≡ true
-  newline h = rw (f.line, f.start, f.stop) at (lt-ltb _ _ h)
-
-  no_newline : to ≤ e → ltb (end_of s i) (stop_of i) ≡ false
-  no_newline h = rw (f.line, f.start, f.stop) at (le-ltb _ _ h)
-
-  any_left : (t : Bool) → (i.over || ltb from to) ≡ t → (i.over || ltb (start_of i) (stop_of i)) ≡ t
-  any_left t o = rw (f.start, f.stop) at o
-
-  pub whole_line : (k : Kind) → e < to → k ≡ kind_of i.over
-      → ◌≡◌ {A = Step} (record { input = record { from = e + 1; to = to; over = false; ended = i.ended }; kind = k; start = from; end = e })
-      (step_of s i)
-  whole_line k h q = rw (newline h, q, f.line, f.start, f.stop)
-
-  pub read_more : to ≤ e → i.ended ≡ false
-      → ◌≡◌ {A = Step} (record { input = record { from = from; to = to; over = i.over; ended = i.ended }; kind = More; start = from; end = from })
-      (step_of s i)
-  read_more h d = rw (no_newline h, d, f.start, f.stop)
-
-  pub last_line : (k : Kind) → to ≤ e → i.ended ≡ true → (i.over || ltb from to) ≡ true → k ≡ kind_of i.over
-      → ◌≡◌ {A = Step} (record { input = record { from = to; to = to; over = false; ended = i.ended }; kind = k; start = from; end = to })
-      (step_of s i)
-  last_line k h d o q = rw (no_newline h, d, any_left true o, q, f.start, f.stop)
-
-  pub no_line : to ≤ e → i.ended ≡ true → (i.over || ltb from to) ≡ false
-      → ◌≡◌ {A = Step} (record { input = record { from = to; to = to; over = false; ended = i.ended }; kind = End; start = to; end = to })
-      (step_of s i)
-  no_line h d o = rw (no_newline h, d, any_left false o, f.stop)
-
--- a turn of the loop that moves bytes to the front: each byte is moved before it is overwritten
-module _ (old buf : List ℕ) (from i : ℕ) (h : from + i < length old) (n : length buf ≡ length old) where
-  pub byte_moved : take i buf ≡ take i (drop from old) → drop i buf ≡ drop i old
-      → take (i + 1) (set buf i (get_or buf (from + i) 0)) ≡ take (i + 1) (drop from old)
-  byte_moved t d =
-      let e : from + i ≡ i + from = omega arith in
-      let v : get_or buf (from + i) 0 ≡ get_or (drop from old) i 0 =
-      rw (get_or-drop from old i 0, e) (sym (get_or-drop i buf from 0) ∙ ap (λ (l : List ℕ). get_or l from 0) d ∙ get_or-drop i old from 0) in
-      rw (add-one i, take-suc-set buf i (get_or buf (from + i) 0) (omega arith), take-suc (drop from old) i 0 (simp length-drop (omega arith)), t, v)
-
-  pub others_stay : drop i buf ≡ drop i old → drop (i + 1) (set buf i (get_or buf (from + i) 0)) ≡ drop (i + 1) old
-  others_stay d = drop-set-lt (i + 1) buf i _ (omega arith) ∙ sym (drop-drop 1 i buf) ∙ ap (drop 1) d ∙ drop-drop 1 i old
-
--- where the part from index at on is lent, what comes back leaves the bytes before it
-pub front_stays : (buf back : List ℕ) (at : ℕ) → at ≤ length buf → take at (take at buf ++ back) ≡ take at buf
-front_stays buf back at h = take_at (take at buf) back at (length-take-le at buf h)
+use Rattle.text.specs.Input.{Input, stop_of, start_of, unread, over_of, kept_of, kept_in, Refilled}
+use Rattle.text.specs.Lines.{input_of, long_of}
+use Rattle.text.specs.declared.input.Lines.{Lines}
+use Rattle.text.specs.declared.input.TooLong.{TooLong}
+use Rattle.text.specs.Window.{Window, bytes_in, WindowRead}
 
 -- the bytes from index f up to index t are the first t - f of those from f on
 pub part_of : (s : List ℕ) (f t : ℕ) → f ≤ t → t ≤ length s → slice f t s ≡ take (t - f) (drop f s)
@@ -81,22 +26,6 @@ part_of s f t h m =
     λ k. rw (take-add f k s) (drop_at (take f s) (take k (drop f s)) f (length-take-le f s (omega arith))) in
     let e : f + (t - f) ≡ t = omega arith in
     rw e at (part (t - f))
-
--- from old, mid after the move and new after the read
-pub refilled : (old mid new : List ℕ) (i : Input) (to from n came : ℕ) → length old ≡ size → to ≡ min i.to size → from ≡ min i.from to
-    → n ≡ cond (i.over || eqb (to - from) size) 0 (to - from) → n ≤ to - from → n + came ≤ size
-    → take n mid ≡ take n (drop from old) → take n new ≡ take n mid
-    → Refilled old i new (record { from = 0; to = n + came; over = i.over || eqb (to - from) size; ended = eqb came 0 })
-refilled old mid new i to from n came long pt pf pn small fits moved stays =
-    let k : n ≡ kept_of i = rw (pf, pt) at pn in
-    let u : take n new ≡ take n (slice from to old) =
-    stays ∙ moved ∙ rw (part_of old from to (omega arith) (omega arith), take-take n (to - from) (drop from old) small) in
-    record {
-      came = came;
-      fits = rw k at fits;
-      next = rw (k, pf, pt);
-      kept = rw (k, pf, pt) at u;
-    }
 
 -- a count and a start that go past the end take nothing more than is there
 take_by : (n : ℕ) (s : List ℕ) (t : Bool) → leb n (length s) ≡ t → take (min n (length s)) s ≡ take n s
@@ -130,17 +59,54 @@ part_by s f t false e =
 pub part_cut : (s : List ℕ) (f t e g : ℕ) → e ≡ min t (length s) → g ≡ min f e → take (e - g) (drop g s) ≡ take (t - f) (drop f s)
 part_cut s f t e g p q = rw (q, p) (part_by s f t (leb f (min t (length s))) refl)
 
--- a window that is read anew: from old, mid after the move and new after the read
-pub window_read : (old mid new : List ℕ) (w : Window) (to from came : ℕ) → to ≡ min w.to (length old) → from ≡ min w.from to
-    → to - from + came ≤ length old → take (to - from) mid ≡ take (to - from) (drop from old) → take (to - from) new ≡ take (to - from) mid
-    → WindowRead old w new (record { from = 0; to = to - from + came; ended = eqb came 0 && ltb (to - from) (length old) })
-window_read old mid new w to from came pt pf fits moved stays =
-    let same : take (to - from) (drop from old) ≡ bytes_in old w = part_cut old w.from w.to to from pt pf in
-    let long : to - from ≡ length (bytes_in old w) =
-    sym (length-take-le (to - from) (drop from old) (simp length-drop (omega arith))) ∙ ap length same in
-    record {
-      came = came;
-      fits = rw long at fits;
-      next = rw long;
-      kept = rw long at (stays ∙ moved ∙ same);
-    }
+-- the bytes at hand are the unread ones
+pub all_unread : (s : List ℕ) (i : Input) (w : Window) → length s ≡ size → w.from ≡ i.from → w.to ≡ i.to → bytes_in s w ≡ unread s i
+all_unread s i w long f t =
+    rw (f, t, part_of s (start_of i) (stop_of i) (omega arith) (omega arith))
+    (sym (part_cut s i.from i.to (stop_of i) (start_of i) (rw long) refl))
+
+-- a read keeps fewer bytes than the buffer has
+kept_by : (i : Input) (t : Bool) → over_of i ≡ t → kept_of i ≤ stop_of i - start_of i × kept_of i < size
+kept_by i true e = rw e (omega arith, omega arith)
+kept_by i false e =
+    let some = eqb-false _ _ (or_parts i.over _ e).1 in
+    rw e (omega arith, omega (arith, some))
+
+and_true : (b : Bool) → (b && true) ≡ b
+and_true true = refl
+and_true false = refl
+
+module _ (s : List ℕ) (i : Input) (long : length s ≡ size) where
+  unread_length : length (unread s i) ≡ stop_of i - start_of i
+  unfolding slice
+  unread_length = length-slice (start_of i) (stop_of i) s (omega arith)
+
+  kept_length : length (kept_in s i) ≡ kept_of i
+  kept_length = length-take-le (kept_of i) (unread s i) (omega (arith, unread_length, (kept_by i (over_of i) refl).0))
+
+  -- it keeps all that are unread, where the line is not too long
+  pub all_kept : over_of i ≡ false → kept_in s i ≡ unread s i
+  all_kept fine = rw fine (take_all _ _ (omega (arith, unread_length)))
+
+  -- the read of a window with these bytes at hand
+  pub refilled : (mid new : List ℕ) (w r : Window) → mid ≡ s → bytes_in mid w ≡ kept_in s i → WindowRead mid w new r
+      → Refilled s i new (record { from = r.from; to = r.to; over = over_of i; ended = r.ended })
+  refilled mid new w r m k read =
+      let n : length (bytes_in mid w) ≡ kept_of i = ap length k ∙ kept_length in
+      let room : length mid ≡ size = ap length m ∙ long in
+      record {
+        came = read.came;
+        fits = rw (n, room) at read.fits;
+        next =
+            rw (read.next, n, room, lt-ltb _ _ (kept_by i (over_of i) refl).1)
+            (ap (λ (e : Bool). let r : Input = record { from = 0; to = kept_of i + read.came; over = over_of i; ended = e } in r) (and_true (eqb read.came 0)));
+        kept = rw n at read.kept ∙ k;
+      }
+
+is_some_by : (t : Bool) (long : TooLong) → is_some (cond t (Some long) None) ≡ t
+is_some_by true long = refl
+is_some_by false long = refl
+
+-- a line is known to be too long where it is
+pub is_some-long_of : (l : Lines) → is_some (long_of l) ≡ over_of (input_of l)
+is_some-long_of l = is_some_by (over_of (input_of l)) _

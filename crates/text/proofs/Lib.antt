@@ -6,6 +6,8 @@ pub mod RoundTrip
 mod Unique
 mod FindLaws
 mod InputLaws
+mod LineLaws
 mod NumberLaws
 mod PayloadLaws
+mod SettingsLaws
 mod Examples

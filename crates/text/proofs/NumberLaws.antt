@@ -4,19 +4,17 @@ use native.Mathlib.Numerals.{add-one}
 use native.Mathlib.Nat.{pow-suc}
 use native.Mathlib.Omega.{arith}
 use mathlib.Core.Path.{◌≡◌, refl, sym, ap, ◌∙◌}
-use mathlib.Core.Bool.{Bool, true, false, cond, ◌&&◌}
+use mathlib.Core.Bool.{Bool, true, false, cond, ◌&&◌, true≢false}
 use mathlib.Core.List.{List, [], ◌∷◌, ◌++◌, append-nil, append_assoc}
 use lib.Dec.{leb}
 use lib.ListN.{length, take, drop, get_or, set, length-set, drop_of_length-le}
 use lib.Seq.{drop-cons, drop-set-lt}
+use Rattle.std.specs.Bool.{IsTrue}
 use Rattle.std.proofs.Common.{get_or-set_same}
 use Rattle.std.proofs.lemmas.List.{take_rest}
 use borrow.Author.Tests.{lt-ltb, le-ltb, le-leb, lt-leb, leb-true, leb-false}
 use Rattle.text.specs.Digits.{hex_digit_ascii}
-use Rattle.text.specs.declared.words.Word.{Word}
-use Rattle.text.specs.declared.numbers.Number.{Number}
-use Rattle.text.specs.Words.{word_at, bytes_of}
-use Rattle.text.specs.Numbers.{digit_of, all_digits, value_of, no_number, number_of, number_at, Typed, digits_of, decimal_text}
+use Rattle.text.specs.Numbers.{Number, digit_of, all_digits, value_of, no_number, number_of, digits_of, decimal_text}
 
 -- what the loop of `decimal` answers where it has read the number v and s is left
 abbrev on_from : ℕ → ℕ → List ℕ → Number
@@ -54,43 +52,37 @@ loop_finds : (limit : ℕ) (s : List ℕ) → 0 < length s → on_from limit 0 s
 unfolding number_of
 loop_finds limit s h = on_from_said limit 0 s (omega arith) ∙ rw (lt-ltb _ _ h)
 
-pub empty_is_none : (limit : ℕ) (s : List ℕ) → length s ≡ 0 → no_number ≡ number_of limit s
+pub empty_is_none : (limit : ℕ) (s : List ℕ) → length s ≡ 0 → ¬ IsTrue (number_of limit s).ok
 unfolding number_of
-empty_is_none limit s h = rw (le-ltb 0 (length s) (omega arith))
+empty_is_none limit s h = rw (le-ltb 0 (length s) (omega arith)) (λ e. true≢false (sym e))
+
+stopped_by : (p q : Bool) (n : Number) → (p ≡ true → q ≡ true → ⊥) → ¬ IsTrue (cond (p && q) n no_number).ok
+stopped_by true true n f = absurd (f refl refl)
+stopped_by true false n f = λ e. true≢false (sym e)
+stopped_by false q n f = λ e. true≢false (sym e)
 
 -- where the loop of `decimal` stands in a word: it has read the number v from the first i digits, and the rest decides
 pub record Reading (limit : ℕ) (s : List ℕ) (v i : ℕ) : Type 0 where
-  pub within : i ≤ length s
   pub small : v ≤ limit
   pub decides : number_of limit s ≡ on_from limit v (drop i s)
 
 pub start : (limit : ℕ) (s : List ℕ) → 0 < length s → Reading limit s 0 0
-start limit s h = record { within = omega arith; small = omega arith; decides = sym (loop_finds limit s h) }
+start limit s h = record { small = omega arith; decides = sym (loop_finds limit s h) }
 
 -- a turn of the loop, and the ways out of it
 module _ {limit v i : ℕ} {s : List ℕ} (c : Reading limit s v i) where
-  opened : i < length s
-      → let d = digit_of (get_or s i 0) in
-      number_of limit s ≡ cond (leb d 9 && leb (v * 10 + d) limit) (on_from limit (v * 10 + d) (drop (suc i) s)) no_number
-  opened h = c.decides ∙ ap (on_from limit v) (drop-cons s i 0 h)
+  module _ (d : ℕ) (h : i < length s) (e : d ≡ digit_of (get_or s i 0)) where
+    opened : number_of limit s ≡ cond (leb d 9 && leb (v * 10 + d) limit) (on_from limit (v * 10 + d) (drop (suc i) s)) no_number
+    opened = c.decides ∙ ap (on_from limit v) (drop-cons s i 0 h) ∙ rw (← e)
 
-  pub digit_read : (d : ℕ) → i < length s → d ≡ digit_of (get_or s i 0) → d ≤ 9 → v * 10 + d ≤ limit → Reading limit s (v * 10 + d) (i + 1)
-  digit_read d h e small fits =
-      record { within = omega arith; small = fits; decides = opened h ∙ rw (← e, le-leb _ _ small, le-leb _ _ fits, add-one i) }
+    pub digit_read : (d ≤ 9) × (v * 10 + d ≤ limit) → Reading limit s (v * 10 + d) (i + 1)
+    digit_read (small, fits) = record { small = fits; decides = opened ∙ rw (le-leb _ _ small, le-leb _ _ fits, add-one i) }
 
-  pub no_digit : (d : ℕ) → i < length s → d ≡ digit_of (get_or s i 0) → 9 < d → no_number ≡ number_of limit s
-  no_digit d h e large = sym (opened h ∙ rw (← e, lt-leb _ _ large))
+    pub stopped : ¬ ((d ≤ 9) × (v * 10 + d ≤ limit)) → ¬ IsTrue (number_of limit s).ok
+    stopped n = rw opened (stopped_by (leb d 9) (leb (v * 10 + d) limit) _ (λ p q. n (leb-true _ _ p, leb-true _ _ q)))
 
-  pub too_large : (d : ℕ) → i < length s → d ≡ digit_of (get_or s i 0) → d ≤ 9 → limit < v * 10 + d → no_number ≡ number_of limit s
-  too_large d h e small over = sym (opened h ∙ rw (← e, le-leb _ _ small, lt-leb _ _ over))
-
-  pub all_read : length s ≤ i → record { ok = true; value = v } ≡ number_of limit s
-  all_read h = sym (c.decides ∙ rw (drop_of_length-le s {i = i} h))
-
-pub number_found : (limit : ℕ) (s : List ℕ) (at : ℕ) (w : Word) (n : Number) → w ≡ word_at s at → n ≡ number_of limit (bytes_of s w)
-    → Typed (number_at limit s at) n.ok n.value w.next
-unfolding number_at
-number_found limit s at w n p q = record { said = rw (← p, ← q); same = rw (← p, ← q); then = rw p }
+  pub all_read : length s ≤ i → IsTrue (number_of limit s).ok × (v ≡ (number_of limit s).value)
+  all_read h = let e = c.decides ∙ rw (drop_of_length-le s {i = i} h) in rw e (refl, refl)
 
 -- where the loop of `output::decimal` stands: the digits of n are those of rest, of which there are at most at, and then those that are written
 pub record Written (n at rest : ℕ) (out : List ℕ) : Type 0 where

@@ -48,20 +48,21 @@ nothing old at h = record { past = omega arith; fits = h; whole = sym (take-appe
 pub stored : (old : List ℕ) (at b : ℕ) → at < length old → Wrote old at (b ∷ []) (set old at b) (at + 1)
 stored old at b h = record { past = refl; fits = omega arith; whole = rw (add-one at) (set_split old at b h) }
 
--- the part from at on that is as long as s was lent to a copy of s, and came back
-pub copied : (old s back : List ℕ) (at : ℕ) → at + length s ≤ length old → back ≡ s
-    → Wrote old at s (take at old ++ (back ++ drop (at + length s - at) (drop at old))) (at + length s)
-copied old s back at room e =
-    let n : at + length s - at ≡ length s = omega arith in
-    record { past = refl; fits = room; whole = rw (e, n, drop-drop (length s) at old) }
+-- the part from at on that is as long as a text was lent, and came back as the text
+pub copied : (old text back : List ℕ) (at n : ℕ) → n ≡ at + length text → n ≤ length old → back ≡ text
+    → Wrote old at text (take at old ++ (back ++ drop (n - at) (drop at old))) n
+copied old text back at n l room e =
+    let m : at + (n - at) ≡ n = omega (arith, l) in
+    record { past = l; fits = room; whole = rw (e, drop-drop (n - at) at old, m) }
 
 -- a text that was written where room was made for it is put
-pub put_there : {old text new : List ℕ} {at start r : ℕ} → start ≡ room_at at → length text ≤ free → Wrote old start text new r → Put old at text new r
+pub put_there : {old mid text new : List ℕ} {at start r : ℕ} → mid ≡ old → start ≡ room_at at → length text ≤ free → Wrote mid start text new r
+    → Put old at text new r
 unfolding past_text with_text
-put_there {old} {text} {new} {at} {start} {r} e h w =
-    record { past = w.past ∙ rw (le-leb _ _ h, e); whole = w.whole ∙ rw (w.past, le-leb _ _ h, e) }
+put_there {old} {mid} {text} {new} {at} {start} {r} m e h w =
+    record { past = w.past ∙ rw (le-leb _ _ h, e); whole = w.whole ∙ rw (w.past, le-leb _ _ h, e, m) }
 
 -- a longer one is put where the buffer was printed and stays as it is
-pub put_past : {old text : List ℕ} {at r : ℕ} → free < length text → r ≡ 0 → Put old at text old r
+pub put_past : {old text new : List ℕ} {at r : ℕ} → new ≡ old → free < length text → r ≡ 0 → Put old at text new r
 unfolding past_text with_text
-put_past h e = record { past = e ∙ rw (lt-leb _ _ h); whole = rw (lt-leb _ _ h) }
+put_past m h e = record { past = e ∙ rw (lt-leb _ _ h); whole = m ∙ rw (lt-leb _ _ h) }

@@ -1,158 +1,240 @@
--- Every public promise is met by one answer only, and leaves a lent buffer one content only. `advance` and `window::read` read from outside: of the
--- first the index is the same.
-use mathlib.Core.Path.{◌≡◌, sym, ◌∙◌}
+-- Every public promise is met by one answer only, and leaves a buffer one content only. `Lines::next` and `Window::read` read from outside.
+use Prim.Native.Nat.{ℕ}
+use mathlib.Core.Path.{◌≡◌, refl, sym, ap, ◌∙◌}
+use mathlib.Core.Bool.{Bool}
+use denote.RattleType.{RattleType}
+use denote.Param.Laws.{Laws, IsCopy}
+use mir.Syntax.{Dict, w64}
+use Rattle.std.specs.Prelude.{Option, Some, None, Ok, Err}
+use Rattle.std.specs.Bool.{IsTrue}
+use Rattle.std.specs.Option.{SomeIff, option_map}
+use Rattle.std.specs.declared.clone.Clone
+use lib.ListN.{length}
+use Rattle.text.specs.declared.numbers.Unsigned
+use Rattle.text.specs.Words.{done_at}
+use Rattle.text.specs.Numbers.{number_of, number_at}
+use Rattle.text.specs.Payloads.{payload_of, payload_at}
+use Rattle.text.specs.Settings.{settings_at}
+use mir.Val.{Fits}
+use Rattle.text.specs.Lines.{input_of, IsAtHand}
+use Rattle.text.specs.declared.input.Lines.{Lines}
+use Rattle.text.specs.declared.input.AtHand.{AtHand}
+use Rattle.text.specs.declared.input.AtHand.TheVariants.{Whole, Part, Nothing}
+use Rattle.text.specs.Window.{span_of}
 use Rattle.text.specs.Unique.{OneAnswer, OneContent}
-use Rattle.text.proofs.least.Reads as least
 use Rattle.text.proofs.part.Reads as part
-use Rattle.text.proofs.input.Input.new.Reads as new
-use Rattle.text.proofs.input.Input.next.Reads as next
-use Rattle.text.proofs.input.is_end.Reads as is_end
-use Rattle.text.proofs.input.line.Reads as line
-use Rattle.text.proofs.input.advance.Reads as advance
+use Rattle.text.proofs.input.Lines.new.Reads as new
+use Rattle.text.proofs.input.Lines.step.Reads as step
 use Rattle.text.proofs.comments.is_skipped.Reads as is_skipped
-use Rattle.text.proofs.comments.in_comment.Reads as in_comment
+use Rattle.text.proofs.comments.has_no_answer.Reads as has_no_answer
 use Rattle.text.proofs.window.Window.new.Reads as new_window
-use Rattle.text.proofs.window.Window.past.Reads as past
-use Rattle.text.proofs.window.bytes.Reads as window_bytes
-use Rattle.text.proofs.words.word_at.Reads as word_at
-use Rattle.text.proofs.words.done.Reads as done
+use Rattle.text.proofs.window.Window.skip.Reads as skip
+use Rattle.text.proofs.window.Window.bytes.Reads as window_bytes
+use Rattle.text.proofs.words.Words.of.Reads as of
+use Rattle.text.proofs.words.Words.word.Reads as word
+use Rattle.text.proofs.words.Words.is_done.Reads as is_done
+use Rattle.text.proofs.words.Words.end.Reads as end
 use Rattle.text.proofs.words.is.Reads as is
 use Rattle.text.proofs.numbers.decimal.Reads as decimal
-use Rattle.text.proofs.numbers.number_at.Reads as number_at
-use Rattle.text.proofs.numbers.u8_at.Reads as u8_at
-use Rattle.text.proofs.numbers.u16_at.Reads as u16_at
-use Rattle.text.proofs.numbers.u32_at.Reads as u32_at
-use Rattle.text.proofs.numbers.usize_at.Reads as usize_at
+use Rattle.text.proofs.words.Words.number.Reads as number
 use Rattle.text.proofs.payloads.hex.Reads as hex
-use Rattle.text.proofs.payloads.payload_at.Reads as payload_at
-use Rattle.text.proofs.settings.settings_at.Reads as settings_at
-use Rattle.text.proofs.output.flush.Reads as flush
-use Rattle.text.proofs.output.put.Reads as put
-use Rattle.text.proofs.output.put_byte.Reads as put_byte
-use Rattle.text.proofs.output.put_decimal.Reads as put_decimal
-use Rattle.text.proofs.output.put_parted.Reads as put_parted
-use Rattle.text.proofs.output.put_hex.Reads as put_hex
-use Rattle.text.proofs.told.put_told.Reads as put_told
+use Rattle.text.proofs.words.Words.payload.Reads as payload
+use Rattle.text.proofs.words.Words.settings.Reads as settings
+use Rattle.text.proofs.output.Printer.new.Reads as new_printer
+use Rattle.text.proofs.output.Printer.flush.Reads as flush
+use Rattle.text.proofs.output.Printer.put.Reads as put
+use Rattle.text.proofs.output.Printer.put_byte.Reads as put_byte
+use Rattle.text.proofs.output.Printer.put_decimal.Reads as put_decimal
+use Rattle.text.proofs.output.Printer.put_parted.Reads as put_parted
+use Rattle.text.proofs.output.Printer.put_hex.Reads as put_hex
+use Rattle.text.proofs.output.Printer.put_told.Reads as put_told
 
 -- two values that meet the same definition are equal
 same : {A : Type 0} {d a b : A} → a ≡ d → b ≡ d → a ≡ b
 same p q = p ∙ sym q
 
-least_unique : OneAnswer (λ l a. a) least.Post
-least_unique l input a b s t = same
+-- two answers that are there in the same case, and then the same value, are equal
+one_some : {A : Type 0} (ok : Bool) (v : A) (a b : Option A) → SomeIff a (IsTrue ok) v → SomeIff b (IsTrue ok) v → a ≡ b
+one_some ok v None None p q = refl
+one_some ok v None (Some y) p q = absurd (p q.0)
+one_some ok v (Some x) None p q = absurd (q p.0)
+one_some ok v (Some x) (Some y) p q = ap Some (p.1 ∙ sym q.1)
+
+one_mapped : {A : Type 0} (f : A → ℕ) → ((x y : A) → f x ≡ f y → x ≡ y) → (a b : Option A) → option_map f a ≡ option_map f b → a ≡ b
+one_mapped f h None None e = refl
+one_mapped f h None (Some y) e = cc
+one_mapped f h (Some x) None e = cc
+one_mapped f h (Some x) (Some y) e = ap Some (h x y (cc))
 
 part_unique : OneAnswer (λ l a. a.now) part.Post
 part_unique l input a b s t = same
 
-new_unique : OneAnswer (λ l a. a) new.Post
-new_unique l input a b s t = same
+new_unique : OneAnswer (λ l a. input_of a) new.Post
+new_unique l input a b s t p q = same p.0 q.0
 
-next_unique : OneAnswer (λ l a. a) next.Post
-next_unique l input a b s t p q = same p.0 q.0
+new_buffer_unique : OneAnswer (λ l a. a.window.buffer) new.Post
+new_buffer_unique l input a b s t p q = same p.1.0 q.1.0
 
-is_end_unique : OneAnswer (λ l a. a) is_end.Post
-is_end_unique l input a b s t = same
+new_stdin_unique : OneAnswer (λ l a. a.window.stdin) new.Post
+new_stdin_unique l input a b s t p q = same p.1.1 q.1.1
 
-line_unique : OneAnswer (λ l a. a.now) line.Post
-line_unique l input a b s t = same
+-- between two reads the lines go on in one way
+step_unique : OneContent (λ l e. input_of e.0.now) step.Post
+step_unique l input a b s t p q = same p.1.input q.1.input
 
-advance_index_unique : OneAnswer (λ l a. a.to) advance.Post
-advance_index_unique l input a b s t p q = same p.1 q.1
+one_line : (a b c d : ℕ) → a ≡ c → b ≡ d → ◌≡◌ {A = AtHand} (Whole (Ok (a, b))) (Whole (Ok (c, d)))
+one_line a b c d p q = rw (p, q)
+
+one_at_hand : (old new other : Lines) (a b : AtHand) → IsAtHand old a new → IsAtHand old b other → a ≡ b
+one_at_hand old new other (Whole (Ok p)) (Whole (Ok q)) f g = one_line p.0 p.1 q.0 q.1 (same f.1 g.1) (same f.2 g.2)
+one_at_hand old new other (Whole (Ok p)) (Whole (Err long)) f g = cc
+one_at_hand old new other (Whole (Ok p)) Part f g = cc
+one_at_hand old new other (Whole (Ok p)) Nothing f g = cc
+one_at_hand old new other (Whole (Err long)) (Whole (Ok q)) f g = cc
+one_at_hand old new other (Whole (Err long)) (Whole (Err also)) f g = cc
+one_at_hand old new other (Whole (Err long)) Part f g = cc
+one_at_hand old new other (Whole (Err long)) Nothing f g = cc
+one_at_hand old new other Part (Whole (Ok q)) f g = cc
+one_at_hand old new other Part (Whole (Err long)) f g = cc
+one_at_hand old new other Part Part f g = refl
+one_at_hand old new other Part Nothing f g = cc
+one_at_hand old new other Nothing (Whole (Ok q)) f g = cc
+one_at_hand old new other Nothing (Whole (Err long)) f g = cc
+one_at_hand old new other Nothing Part f g = cc
+one_at_hand old new other Nothing Nothing f g = refl
+
+step_answer_unique : OneAnswer (λ l a. a) step.Post
+step_answer_unique l input a b s t p q = one_at_hand _ _ _ a b p.0 q.0
+
+step_buffer_unique : OneContent (λ l e. e.0.now.window.buffer) step.Post
+step_buffer_unique l input a b s t p q = same p.1.buffer q.1.buffer
 
 is_skipped_unique : OneAnswer (λ l a. a) is_skipped.Post
 is_skipped_unique l input a b s t = same
 
-in_comment_unique : OneAnswer (λ l a. a) in_comment.Post
-in_comment_unique l input a b s t = same
+has_no_answer_unique : OneAnswer (λ l a. a) has_no_answer.Post
+has_no_answer_unique l input a b s t = same
 
-new_window_unique : OneAnswer (λ l a. a) new_window.Post
-new_window_unique l input a b s t = same
+new_window_unique : (n : ℕ) (fits : Fits w64 n) → OneAnswer (λ l a. span_of a) (new_window.Post n fits)
+new_window_unique n fits l input a b s t p q = same p.0 q.0
 
-past_unique : OneAnswer (λ l a. a) past.Post
-past_unique l input a b s t = same
+new_window_buffer_unique : (n : ℕ) (fits : Fits w64 n) → OneAnswer (λ l a. a.buffer) (new_window.Post n fits)
+new_window_buffer_unique n fits l input a b s t p q = same p.1.0 q.1.0
 
-window_bytes_unique : OneAnswer (λ l a. a.now) window_bytes.Post
-window_bytes_unique l input a b s t = same
+new_window_stdin_unique : (n : ℕ) (fits : Fits w64 n) → OneAnswer (λ l a. a.stdin) (new_window.Post n fits)
+new_window_stdin_unique n fits l input a b s t p q = same p.1.1 q.1.1
 
-word_at_unique : OneAnswer (λ l a. a) word_at.Post
-word_at_unique l input a b s t p q = same p.0 q.0
+window_bytes_unique : (n : ℕ) (fits : Fits w64 n) → OneAnswer (λ l a. a.now) (window_bytes.Post n fits)
+window_bytes_unique n fits l input a b s t = same
 
-done_unique : OneAnswer (λ l a. a) done.Post
-done_unique l input a b s t = same
+skip_unique : (n : ℕ) (fits : Fits w64 n) → OneContent (λ l e. span_of e.0.now) (skip.Post n fits)
+skip_unique n fits l input a b s t p q = same p.0 q.0
+
+skip_buffer_unique : (n : ℕ) (fits : Fits w64 n) → OneContent (λ l e. e.0.now.buffer) (skip.Post n fits)
+skip_buffer_unique n fits l input a b s t p q = same p.1 q.1
+
+of_unique : OneAnswer (λ l a. a) of.Post
+of_unique l input a b s t = same
+
+word_unique : OneAnswer (λ l a. a.now) word.Post
+word_unique l input a b s t p q = same p.0 q.0
+
+word_content_unique : OneContent (λ l e. e.0.now) word.Post
+word_content_unique l input a b s t p q = same p.1.0 q.1.0
+
+is_done_unique : OneAnswer (λ l a. a) is_done.Post
+is_done_unique l input a b s t = same
+
+end_unique : OneAnswer (λ l a. a) end.Post
+end_unique l input a b s t = one_some (done_at input.0.now.line input.0.now.at) tt a b
 
 is_unique : OneAnswer (λ l a. a) is.Post
 is_unique l input a b s t = same
 
 decimal_unique : OneAnswer (λ l a. a) decimal.Post
-decimal_unique l input a b s t p q = same p.0 q.0
+decimal_unique l input a b s t p q = let n = number_of input.1.0 input.0.now in one_some n.ok n.value a b p.0 q.0
 
--- numbers that are the same number are equal, at each width
-number_at_unique : OneAnswer (λ l a. a) number_at.Post
-number_at_unique l input a b s t p q = rw (p.0.said, p.0.same, p.0.then) (rw (q.0.said, q.0.same, q.0.then))
+-- at each width of which no two values are one number
+module _ (T : RattleType) (L : Laws T) (C : IsCopy T) (U : Unsigned.Ghosts T.Denot) (D : Dict) (K : Clone.Ghosts T.Denot) (E : Dict) where
+  number_unique : ((x y : T.Denot) → U.number x ≡ U.number y → x ≡ y) → OneAnswer (λ l a. a) (number.Post T L C U D K E)
+  number_unique h l input a b s t p q =
+      let n = number_at (U.number input.1.0) input.0.now.line input.0.now.at in
+      one_mapped U.number h a b (one_some n.ok n.value (option_map U.number a) (option_map U.number b) p.0 q.0)
 
-u8_at_unique : OneAnswer (λ l a. a) u8_at.Post
-u8_at_unique l input a b s t p q = rw (p.0.said, p.0.same, p.0.then) (rw (q.0.said, q.0.same, q.0.then))
-
-u16_at_unique : OneAnswer (λ l a. a) u16_at.Post
-u16_at_unique l input a b s t p q = rw (p.0.said, p.0.same, p.0.then) (rw (q.0.said, q.0.same, q.0.then))
-
-u32_at_unique : OneAnswer (λ l a. a) u32_at.Post
-u32_at_unique l input a b s t p q = rw (p.0.said, p.0.same, p.0.then) (rw (q.0.said, q.0.same, q.0.then))
-
-usize_at_unique : OneAnswer (λ l a. a) usize_at.Post
-usize_at_unique l input a b s t p q = rw (p.0.said, p.0.same, p.0.then) (rw (q.0.said, q.0.same, q.0.then))
+  number_content_unique : OneContent (λ l e. e.0.now) (number.Post T L C U D K E)
+  number_content_unique l input a b s t p q = same p.1.1.0 q.1.1.0
 
 hex_unique : OneAnswer (λ l a. a) hex.Post
-hex_unique l input a b s t p q = same p.0 q.0
+hex_unique l input a b s t p q = let n = payload_of (length input.1.0.now) input.0.now in one_some n.ok n.len a b p.0 q.0
 
 hex_content_unique : OneContent (λ l e. e.1.0.now) hex.Post
 hex_content_unique l input a b s t p q = same p.1 q.1
 
-payload_at_unique : OneAnswer (λ l a. a) payload_at.Post
-payload_at_unique l input a b s t p q = same p.0 q.0
+payload_unique : OneAnswer (λ l a. a) payload.Post
+payload_unique l input a b s t p q =
+    let n = payload_at (length input.1.0.now) input.0.now.line input.0.now.at in one_some n.ok n.len a b p.0 q.0
 
-payload_at_content_unique : OneContent (λ l e. e.1.1.0.now) payload_at.Post
-payload_at_content_unique l input a b s t p q = same p.1.0 q.1.0
+payload_content_unique : OneContent (λ l e. e.1.0.now) payload.Post
+payload_content_unique l input a b s t p q = same p.1.0 q.1.0
 
-settings_at_unique : OneAnswer (λ l a. a) settings_at.Post
-settings_at_unique l input a b s t = same
+payload_words_unique : OneContent (λ l e. e.0.now) payload.Post
+payload_words_unique l input a b s t p q = same p.1.1.1.0 q.1.1.1.0
 
-flush_unique : OneAnswer (λ l a. a) flush.Post
-flush_unique l input a b s t = same
+settings_unique : OneAnswer (λ l a. a) settings.Post
+settings_unique l input a b s t p q =
+    let n = settings_at input.0.now.line input.0.now.at in one_some n.ok (n.stream, n.settings) a b p.0 q.0
 
--- what is put stands at one index, and leaves one buffer
-put_unique : OneAnswer (λ l a. a) put.Post
+settings_content_unique : OneContent (λ l e. e.0.now) settings.Post
+settings_content_unique l input a b s t p q = same p.1 q.1
+
+new_printer_unique : OneAnswer (λ l a. a.at) new_printer.Post
+new_printer_unique l input a b s t p q = same p.0 q.0
+
+new_printer_buffer_unique : OneAnswer (λ l a. a.buffer) new_printer.Post
+new_printer_buffer_unique l input a b s t p q = same p.1.0 q.1.0
+
+new_printer_stdout_unique : OneAnswer (λ l a. a.stdout) new_printer.Post
+new_printer_stdout_unique l input a b s t p q = same p.1.1 q.1.1
+
+flush_unique : OneContent (λ l e. e.0.now.at) flush.Post
+flush_unique l input a b s t p q = same p.0 q.0
+
+flush_buffer_unique : OneContent (λ l e. e.0.now.buffer) flush.Post
+flush_buffer_unique l input a b s t p q = same p.1 q.1
+
+-- what is put ends at one index, and leaves one buffer
+put_unique : OneContent (λ l e. e.0.now.at) put.Post
 put_unique l input a b s t p q = same p.past q.past
 
-put_content_unique : OneContent (λ l e. e.1.0.now) put.Post
-put_content_unique l input a b s t p q = same p.whole q.whole
+put_buffer_unique : OneContent (λ l e. e.0.now.buffer) put.Post
+put_buffer_unique l input a b s t p q = same p.whole q.whole
 
-put_byte_unique : OneAnswer (λ l a. a) put_byte.Post
+put_byte_unique : OneContent (λ l e. e.0.now.at) put_byte.Post
 put_byte_unique l input a b s t p q = same p.past q.past
 
-put_byte_content_unique : OneContent (λ l e. e.1.0.now) put_byte.Post
-put_byte_content_unique l input a b s t p q = same p.whole q.whole
+put_byte_buffer_unique : OneContent (λ l e. e.0.now.buffer) put_byte.Post
+put_byte_buffer_unique l input a b s t p q = same p.whole q.whole
 
-put_decimal_unique : OneAnswer (λ l a. a) put_decimal.Post
+put_decimal_unique : OneContent (λ l e. e.0.now.at) put_decimal.Post
 put_decimal_unique l input a b s t p q = same p.past q.past
 
-put_decimal_content_unique : OneContent (λ l e. e.1.0.now) put_decimal.Post
-put_decimal_content_unique l input a b s t p q = same p.whole q.whole
+put_decimal_buffer_unique : OneContent (λ l e. e.0.now.buffer) put_decimal.Post
+put_decimal_buffer_unique l input a b s t p q = same p.whole q.whole
 
-put_parted_unique : OneAnswer (λ l a. a) put_parted.Post
+put_parted_unique : OneContent (λ l e. e.0.now.at) put_parted.Post
 put_parted_unique l input a b s t p q = same p.past q.past
 
-put_parted_content_unique : OneContent (λ l e. e.1.0.now) put_parted.Post
-put_parted_content_unique l input a b s t p q = same p.whole q.whole
+put_parted_buffer_unique : OneContent (λ l e. e.0.now.buffer) put_parted.Post
+put_parted_buffer_unique l input a b s t p q = same p.whole q.whole
 
-put_hex_unique : OneAnswer (λ l a. a) put_hex.Post
+put_hex_unique : OneContent (λ l e. e.0.now.at) put_hex.Post
 put_hex_unique l input a b s t p q = same p.past q.past
 
-put_hex_content_unique : OneContent (λ l e. e.1.0.now) put_hex.Post
-put_hex_content_unique l input a b s t p q = same p.whole q.whole
+put_hex_buffer_unique : OneContent (λ l e. e.0.now.buffer) put_hex.Post
+put_hex_buffer_unique l input a b s t p q = same p.whole q.whole
 
-put_told_unique : OneAnswer (λ l a. a) put_told.Post
+put_told_unique : OneContent (λ l e. e.0.now.at) put_told.Post
 put_told_unique l input a b s t p q = same p.past q.past
 
-put_told_content_unique : OneContent (λ l e. e.1.0.now) put_told.Post
-put_told_content_unique l input a b s t p q = same p.whole q.whole
+put_told_buffer_unique : OneContent (λ l e. e.0.now.buffer) put_told.Post
+put_told_buffer_unique l input a b s t p q = same p.whole q.whole

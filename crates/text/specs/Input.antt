@@ -2,10 +2,32 @@
 use Rattle.std.specs.Prelude.{ℕ, ◌+◌, ◌-◌, ◌≤◌, min, Bool, true, false, cond, ◌||◌, ◌≡◌, List, ltb, eqb, take, drop}
 use Rattle.text.specs.Bytes.{index_of, slice}
 use Rattle.text.specs.Buffer.{size}
-use Rattle.text.specs.declared.input.Input.{Input}
-use Rattle.text.specs.declared.input.Step.{Step}
-use Rattle.text.specs.declared.input.Kind.{Kind}
-use Rattle.text.specs.declared.input.Kind.TheVariants.{Line, Long, More, End}
+
+-- where the unread bytes stand in a buffer, from the one index up to the other, and what is known of the input besides
+pub record Input : Type 0 where
+  pub from : ℕ
+  pub to : ℕ
+  -- the line at hand is too long, and its bytes are dropped
+  pub over : Bool
+  -- no byte comes any more
+  pub ended : Bool
+
+pub data Kind : Type 0 where
+  -- a line
+  Line : Kind
+  -- a line ends here that was too long
+  Long : Kind
+  -- there is no whole line in the buffer: more is to be read
+  More : Kind
+  -- there is no line any more
+  End : Kind
+
+-- what is at hand, from index start up to index end, and what to go on from
+pub record Step : Type 0 where
+  pub input : Input
+  pub kind : Kind
+  pub start : ℕ
+  pub end : ℕ
 
 -- the input before anything is read
 abbrev pub fresh : Input
@@ -64,13 +86,6 @@ step_of s i =
 abbrev pub line_in : List ℕ → Step → List ℕ
 line_in s r = take (r.end - r.start) (drop r.start s)
 
--- the step that no other follows
-abbrev pub is_end : Kind → Bool
-is_end Line = false
-is_end Long = false
-is_end More = false
-is_end End = true
-
 -- where no whole line is there, the line at hand is too long if it was so before, or fills the buffer
 abbrev pub over_of : Input → Bool
 over_of i = i.over || eqb (stop_of i - start_of i) size
@@ -79,6 +94,10 @@ over_of i = i.over || eqb (stop_of i - start_of i) size
 abbrev pub kept_of : Input → ℕ
 kept_of i = cond (over_of i) 0 (stop_of i - start_of i)
 
+-- these bytes
+abbrev pub kept_in : List ℕ → Input → List ℕ
+kept_in s i = take (kept_of i) (unread s i)
+
 -- one read has made new of the buffer old, and r of the input i: what is kept stands at the front, and what came stands behind it
 pub record Refilled (old : List ℕ) (i : Input) (new : List ℕ) (r : Input) : Type 0 where
   -- how many bytes came, of which nothing else is known
@@ -86,17 +105,3 @@ pub record Refilled (old : List ℕ) (i : Input) (new : List ℕ) (r : Input) : 
   pub fits : kept_of i + came ≤ size
   pub next : r ≡ record { from = 0; to = kept_of i + came; over = over_of i; ended = eqb came 0 }
   pub kept : take (kept_of i) new ≡ take (kept_of i) (unread old i)
-
--- going on from a step's input i: one read where more is to be read, and else no change of the buffer
-abbrev pub Advanced : Kind → List ℕ → Input → List ℕ → Input → Type 0
-Advanced Line old i new r = (r ≡ i) × (new ≡ old)
-Advanced Long old i new r = (r ≡ i) × (new ≡ old)
-Advanced More old i new r = Refilled old i new r
-Advanced End old i new r = (r ≡ i) × (new ≡ old)
-
--- the index in the output to go on at: all is printed before a read and at the end
-abbrev pub printed_to : Kind → ℕ → ℕ
-printed_to Line to = to
-printed_to Long to = to
-printed_to More to = 0
-printed_to End to = 0

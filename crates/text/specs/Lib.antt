@@ -3,6 +3,7 @@ pub mod Digits
 pub mod Buffer
 pub mod Input
 pub mod Comments
+pub mod Lines
 pub mod Window
 pub mod Words
 pub mod Numbers

@@ -1,9 +1,18 @@
 -- Numbers in decimal: what a word says as a number, and the digits that are written for a number.
-use Rattle.std.specs.Prelude.{ℕ, zero, suc, ◌+◌, ◌-◌, ◌*◌, ◌/◌, ◌%◌, Bool, true, false, cond, ◌&&◌, ◌≡◌, List, [], ◌∷◌, ◌++◌, ltb, leb, length}
+use Rattle.std.specs.Prelude.{ℕ, zero, suc, ◌+◌, ◌-◌, ◌*◌, ◌/◌, ◌%◌, Bool, true, false, cond, ◌&&◌, List, [], ◌∷◌, ◌++◌, ltb, leb, length}
 use Rattle.text.specs.Digits.{hex_digit_ascii}
 use Rattle.text.specs.Words.{word_at, bytes_at}
-use Rattle.text.specs.declared.numbers.Number.{Number}
-use Rattle.text.specs.declared.numbers.NumberAt.{NumberAt}
+
+-- what a word says as a number: where it is no number, ok is false and value is 0
+pub record Number : Type 0 where
+  pub ok : Bool
+  pub value : ℕ
+
+-- the same, and the index where the next word starts
+pub record NumberAt : Type 0 where
+  pub ok : Bool
+  pub value : ℕ
+  pub next : ℕ
 
 -- what a byte says as a digit, `0` to `9`, and 10 if it is none
 abbrev pub digit_of : ℕ → ℕ
@@ -35,12 +44,6 @@ number_at limit s at =
       value = (number_of limit (bytes_at s at)).value;
       next = (word_at s at).next;
     }
-
--- a number of any width that is n
-pub record Typed (n : NumberAt) (ok : Bool) (value next : ℕ) : Type 0 where
-  pub said : ok ≡ n.ok
-  pub same : value ≡ n.value
-  pub then : next ≡ n.next
 
 -- the digits of n with no zero in front, if there are at most f of them
 abbrev pub digits_of : ℕ → ℕ → List ℕ

@@ -2,8 +2,17 @@
 use Rattle.std.specs.Prelude.{ℕ, ◌+◌, ◌-◌, ◌*◌, ◌/◌, ◌%◌, Bool, true, false, cond, ◌&&◌, ◌||◌, List, [], ◌∷◌, ◌++◌, ltb, leb, eqb, length, drop, get_or}
 use Rattle.text.specs.Digits.{hex_digit_ascii}
 use Rattle.text.specs.Words.{word_at, bytes_at}
-use Rattle.text.specs.declared.payloads.Payload.{Payload}
-use Rattle.text.specs.declared.payloads.PayloadAt.{PayloadAt}
+
+-- what a word says as a payload: it is the first len bytes of what was lent. Where it is no payload, ok is false and len is 0
+pub record Payload : Type 0 where
+  pub ok : Bool
+  pub len : ℕ
+
+-- the same, and the index where the next word starts
+pub record PayloadAt : Type 0 where
+  pub ok : Bool
+  pub len : ℕ
+  pub next : ℕ
 
 -- what a byte says as a hex digit, `0` to `9` and `a` to `f`, and 16 if it is none
 abbrev pub nibble_of : ℕ → ℕ

@@ -1,8 +1,16 @@
 -- The settings that seven words say, one number each, of any size that its field holds.
-use Rattle.std.specs.Prelude.{ℕ, ◌&&◌, List}
+use Rattle.std.specs.Prelude.{ℕ, Bool, ◌&&◌, List}
 use Rattle.wire.specs.Settings.{settings}
-use Rattle.text.specs.declared.settings.SettingsAt.{SettingsAt}
+use Rattle.wire.specs.declared.ids.Stream.{Stream}
+use Rattle.wire.specs.declared.settings.Settings.{Settings}
 use Rattle.text.specs.Numbers.{number_at}
+
+-- what seven words say: where one of them is no number, ok is false
+pub record SettingsAt : Type 0 where
+  pub ok : Bool
+  pub stream : Stream
+  pub settings : Settings
+  pub next : ℕ
 
 unfoldable pub settings_at : List ℕ → ℕ → SettingsAt
 settings_at line at =

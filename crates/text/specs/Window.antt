@@ -1,6 +1,16 @@
 -- A window on the bytes of the input that are at hand, and what may become of it when more is read.
-use Rattle.std.specs.Prelude.{ℕ, ◌+◌, ◌-◌, ◌≤◌, min, false, ◌&&◌, ◌≡◌, List, eqb, ltb, length, take, drop}
-use Rattle.text.specs.declared.window.Window.{Window}
+use Rattle.std.specs.Prelude.{ℕ, ◌+◌, ◌-◌, ◌≤◌, min, Bool, false, ◌&&◌, ◌≡◌, List, eqb, ltb, length, take, drop}
+use Rattle.text.specs.declared.window.Window.{Window as Declared}
+
+-- where the bytes at hand stand in a buffer, and whether no byte comes any more
+pub record Window : Type 0 where
+  pub from : ℕ
+  pub to : ℕ
+  pub ended : Bool
+
+-- those of a window with its buffer
+abbrev pub span_of : {N : ℕ} → Declared N → Window
+span_of w = record { from = w.from; to = w.to; ended = w.ended }
 
 -- before anything is read
 abbrev pub empty : Window

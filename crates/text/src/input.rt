@@ -1,231 +1,156 @@
-// Lines of standard input, of any length, in a buffer that the caller lends.
+// Lines of standard input, of any length.
 //
-// The unread bytes are buffer[from..to]. A line of up to 65,535 bytes is handed out where it
-// stands. A longer one is dropped as it comes, and answered once, as `Long`, where it ends.
-//
-// A program goes round: `next` says what is at hand, `line` has its bytes, and `advance` goes on from there.
-ghost use Rattle.std.specs.Prelude.{◌+◌, ◌-◌, ◌≤◌, cond, ◌≡◌, length, take, drop};
+// A line of up to 65,535 bytes is handed out where it stands in the buffer. A longer one is dropped as it comes, and answered once,
+// as `TooLong`, where it ends.
+ghost use Rattle.std.specs.Prelude.{◌≡◌, ◌+◌, ◌≤◌, ◌<◌, length, ◌==◌, position, replicate, MatchOption};
 ghost use Rattle.text.specs.Buffer.{size};
-ghost use Rattle.text.specs.Input.{fresh, step_of, kind_of, is_end, line_in, printed_to, Refilled, Advanced};
+ghost use Rattle.text.specs.Bytes.{index_of, slice};
+ghost use Rattle.text.specs.Input.{fresh, kept_in, Refilled};
+ghost use Rattle.text.specs.Window.{bytes_in, span_of};
+ghost use Rattle.std.specs.Borrow.{sem};
+ghost use Rattle.text.specs.Lines.{input_of, long_of, GoneOn, IsAtHand, Found, IsLine, IsNext, RestsAs};
 
-use crate::{Buffer, SIZE, find, least, output, part};
-use std::io::{Read, Stdin, Stdout};
+use crate::output::Printer;
+use crate::window::Window;
+use crate::{SIZE, first, part};
+use std::io::Stdin;
 
-#[derive(Clone, Copy)]
-pub struct Input {
-    pub from: usize,
-    pub to: usize,
+// What is known of a line that is too long.
+#[derive(Clone, Copy, PartialEq, Eq, Debug)]
+pub struct TooLong {
+    // It began as a comment.
+    pub comment: bool,
+}
+
+// A line with no newline.
+pub type Line<'a> = Result<&'a [u8], TooLong>;
+
+#[derive(Drop)]
+pub struct Lines {
+    // The bytes that are not read yet.
+    pub window: Window<SIZE>,
     // The line at hand is too long, and its bytes are dropped.
-    pub over: bool,
-    // No byte comes any more.
-    pub ended: bool,
+    pub over: Option<TooLong>,
 }
 
-#[derive(Clone, Copy)]
-pub enum Kind {
-    // buffer[start..end] is a line.
-    Line,
-    // A line ends here that was too long.
-    Long,
+enum AtHand {
+    // A line is, buffer[start..end], or ends here that was too long.
+    Whole(Result<(usize, usize), TooLong>),
     // There is no whole line in the buffer: more is to be read.
-    More,
+    Part,
     // There is no line any more.
-    End,
+    Nothing,
 }
 
-#[derive(Clone, Copy)]
-pub struct Step {
-    // What to go on from.
-    pub input: Input,
-    pub kind: Kind,
-    pub start: usize,
-    pub end: usize,
-}
-
-impl Input {
-    pub fn new() -> Self
-        ensures { result ≡ fresh }
+impl Lines {
+    pub fn new(stdin: Stdin) -> Lines
+        ensures fresh { input_of result ≡ fresh }
+        ensures buffer { result.window.buffer ≡ replicate size 0 }
+        ensures stdin { result.window.stdin ≡ stdin }
     {
-        Input {
-            from: 0,
-            to: 0,
-            over: false,
-            ended: false,
+        Lines {
+            window: Window::new(stdin),
+            over: None,
         }
     }
 
-    // What is at hand. The newline is no part of a line, and the last line may lack one.
-    pub fn next(self, buf: &Buffer) -> Step
-        ensures value { result ≡ step_of buf.now self }
-        ensures start_le_end { (result.start ≤ result.end) × (result.end ≤ size) }
+    // The next line, and None at the end. Where no whole one is there it reads, which may wait. What was answered is printed before
+    // each read, and at the end.
+    pub fn next(&mut self, out: &mut Printer) -> Option<Line<'_>>
+        ensures next { IsNext self.old out.old result out.new }
+        ensures* rests { sem 𝓛 (RestsAs self.entry out.old result out.new) }
     {
-        let to = least(self.to, SIZE);
-        let from = least(self.from, to);
-        let over = self.over;
-        let ended = self.ended;
-        let end = find(buf, from, to, b'\n');
-        if end < to {
-            return Step {
-                input: Input {
-                    from: end + 1,
-                    to,
-                    over: false,
-                    ended,
-                },
-                kind: kind_of(over),
-                start: from,
-                end,
-            };
-        }
-        if !ended {
-            return Step {
-                input: Input {
-                    from,
-                    to,
-                    over,
-                    ended,
-                },
-                kind: Kind::More,
-                start: from,
-                end: from,
-            };
-        }
-        let nothing = Input {
-            from: to,
-            to,
-            over: false,
-            ended,
-        };
-        if over | (from < to) {
-            return Step {
-                input: nothing,
-                kind: kind_of(over),
-                start: from,
-                end: to,
-            };
-        }
-        Step {
-            input: nothing,
-            kind: Kind::End,
-            start: to,
-            end: to,
+        let found = self.find(out)?;
+        Some(self.line(found))
+    }
+
+    // The line that was found.
+    fn line(&self, found: Result<(usize, usize), TooLong>) -> Line<'_>
+        ensures { IsLine self.now.window.buffer found result }
+    {
+        match found {
+            Ok((start, end)) => Ok(part(&self.window.buffer, start, end)),
+            Err(long) => Err(long),
         }
     }
-}
 
-fn kind_of(over: bool) -> Kind
-    ensures { result ≡ kind_of over }
-{
-    if over { Kind::Long } else { Kind::Line }
-}
-
-// Whether there is no line any more.
-pub fn is_end(step: Step) -> bool
-    ensures { result ≡ is_end step.kind }
-{
-    let kind = step.kind;
-    match kind {
-        Kind::Line => false,
-        Kind::Long => false,
-        Kind::More => false,
-        Kind::End => true,
-    }
-}
-
-// The bytes that a step hands out.
-pub fn line(step: Step, buf: &Buffer) -> &[u8]
-    ensures { result.now ≡ line_in buf.now step }
-{
-    part(buf, step.start, step.end)
-}
-
-// What to go on from, and the index in the output to go on at.
-#[derive(Clone, Copy)]
-pub struct On {
-    pub input: Input,
-    pub to: usize,
-}
-
-// Goes on from a step. Where it asks for more, what was answered up to index to is printed, and then one read is made, which may
-// wait; at the end what was answered is printed.
-pub fn advance(
-    stdin: Stdin,
-    stdout: Stdout,
-    step: Step,
-    buf: &mut Buffer,
-    out: &Buffer,
-    to: usize,
-) -> On
-    ensures advanced { Advanced step.kind buf.old step.input buf.new result.input }
-    ensures to_value { result.to ≡ printed_to step.kind to }
-{
-    let kind = step.kind;
-    let rest = step.input;
-    match kind {
-        Kind::Line => On { input: rest, to },
-        Kind::Long => On { input: rest, to },
-        Kind::More => {
-            let start = output::flush(stdout, out, to);
-            On {
-                input: refill(stdin, rest, buf),
-                to: start,
+    // Where it stands.
+    fn find(&mut self, out: &mut Printer) -> Option<Result<(usize, usize), TooLong>>
+        ensures { Found self.old out.old result self.new out.new }
+    {
+        for _reads in 0..u64::MAX {
+            match self.step() {
+                AtHand::Whole(line) => return Some(line),
+                AtHand::Part => {
+                    out.flush();
+                    self.refill();
+                }
+                AtHand::Nothing => {
+                    out.flush();
+                    return None;
+                }
             }
         }
-        Kind::End => On {
-            input: rest,
-            to: output::flush(stdout, out, to),
-        },
+        None
+    }
+
+    // What is at hand, which is then behind. The newline is no part of a line, and the last line may lack one.
+    fn step(&mut self) -> AtHand
+        ensures at_hand { IsAtHand self.old result self.new }
+        ensures gone_on { GoneOn self.old self.new }
+    {
+        let to = self.window.to.min(SIZE);
+        let from = self.window.from.min(to);
+        self.window.from = from;
+        self.window.to = to;
+        let (end, next) = match newline(&self.window.buffer, from, to) {
+            Some(at) => (at, at + 1),
+            None if !self.window.ended => return AtHand::Part,
+            None if from < to || self.over.is_some() => (to, to),
+            None => return AtHand::Nothing,
+        };
+        self.window.from = next;
+        match self.over.take() {
+            Some(long) => AtHand::Whole(Err(long)),
+            None => AtHand::Whole(Ok((from, end))),
+        }
+    }
+
+    // Reads once behind the unread bytes, of which those of a line that is too long are dropped. A read that fails counts as the
+    // end of the input.
+    fn refill(&mut self)
+        ensures refilled { Refilled self.old.window.buffer (input_of self.old) self.new.window.buffer (input_of self.new) }
+        ensures over { self.new.over ≡ long_of self.old }
+    {
+        self.drop_long();
+        self.window.read();
+    }
+
+    // A line is too long if it was so before, or fills the buffer.
+    fn drop_long(&mut self)
+        ensures over { self.new.over ≡ long_of self.old }
+        ensures kept { bytes_in self.new.window.buffer (span_of self.new.window) ≡ kept_in self.old.window.buffer (input_of self.old) }
+        ensures buffer { self.new.window.buffer ≡ self.old.window.buffer }
+    {
+        if self.over.is_none() {
+            let to = self.window.to.min(SIZE);
+            let from = self.window.from.min(to);
+            if to - from < SIZE {
+                return;
+            }
+            self.over = Some(TooLong {
+                comment: self.window.buffer[from] == b'#',
+            });
+        }
+        self.window.skip(SIZE);
     }
 }
 
-// Moves the unread bytes to the front, and reads once behind them. Where they are all of a line
-// that is too long, they are dropped. A read that fails counts as the end of the input.
-fn refill(stdin: Stdin, input: Input, buf: &mut Buffer) -> Input
-    ensures { Refilled buf.old input buf.new result }
+// Where the first newline stands from one index up to another.
+fn newline(s: &[u8], from: usize, to: usize) -> Option<usize>
+    requires ordered { from ≤ to }
+    requires within { to ≤ length s.now }
+    ensures { MatchOption result (to ≤ from + index_of 10 (slice from to s.now)) (λ at. (at ≡ from + index_of 10 (slice from to s.now)) × (at < to)) }
 {
-    let to = least(input.to, SIZE);
-    let from = least(input.from, to);
-    let over = input.over | (to - from == SIZE);
-    let n = kept(from, to, over);
-    shift(buf, from, n);
-    let came = fill(stdin, buf, n);
-    Input {
-        from: 0,
-        to: n + came,
-        over,
-        ended: came == 0,
-    }
-}
-
-// How many of the unread bytes stay.
-fn kept(from: usize, to: usize, over: bool) -> usize
-    requires { from ≤ to }
-    ensures { (result ≡ cond over 0 (to - from)) × (from + result ≤ to) }
-{
-    if over { 0 } else { to - from }
-}
-
-// Moves n bytes from index from on to the front.
-pub(crate) fn shift(buf: &mut [u8], from: usize, n: usize)
-    requires { from + n ≤ length buf.old }
-    ensures { take n buf.new ≡ take n (drop from buf.old) }
-{
-    let mut i = 0;
-    while i < n {
-        buf[i] = buf[from + i];
-        i += 1;
-    }
-}
-
-// Reads once, from index at on, and answers how many bytes came.
-pub(crate) fn fill(stdin: Stdin, buf: &mut [u8], at: usize) -> usize
-    requires { at ≤ length buf.old }
-    ensures result_in_bounds { at + result ≤ length buf.old }
-    ensures buf_unchanged { take at buf.new ≡ take at buf.old }
-{
-    let mut reader = stdin;
-    match reader.read(&mut buf[at..]) {
-        Ok(n) => n,
-        Err(_) => 0,
-    }
+    Some(from + first(&s[from..to], b'\n')?)
 }

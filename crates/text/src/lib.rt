@@ -1,8 +1,8 @@
 // Text for a program that goes by lines: the lines of standard input, the words of a line with the
 // numbers and payloads that they say, and what the program prints; and bytes of standard input that are no text.
 //
-// Only `input::advance` and `window::read` read and only `input::advance` and `output` print, which no contract can speak of. Of
-// all else a function's contract says everything that it answers and writes.
+// Only `Window::read` reads and only `Printer` prints, which no contract can speak of. Of all else a function's contract says
+// everything that it answers and writes.
 #![tactic(auto)]
 
 pub mod comments;
@@ -15,47 +15,25 @@ pub mod told;
 pub mod window;
 pub mod words;
 
-ghost use Rattle.std.specs.Prelude.{◌+◌, ◌-◌, ◌≤◌, min, length, take, drop, ◌≡◌};
-ghost use Rattle.text.specs.Bytes.{index_of, slice};
+ghost use Rattle.std.specs.Prelude.{◌-◌, take, drop, position, ◌≡◌, ◌==◌};
 
-// How many bytes the buffers have that a program lends, one for its input and one for its output.
+// How many bytes the buffers of lines and of what is printed have.
 pub const SIZE: usize = 65536;
 
 pub type Buffer = [u8; SIZE];
-
-// The smaller of two numbers.
-pub fn least(a: usize, b: usize) -> usize
-    ensures { result ≡ min a b }
-{
-    if a < b { a } else { b }
-}
 
 // The bytes from one index up to another, or as many of them as there are.
 pub fn part(s: &[u8], from: usize, to: usize) -> &[u8]
     ensures { result.now ≡ take (to - from) (drop from s.now) }
 {
-    let end = least(to, s.len());
-    let start = least(from, end);
+    let end = to.min(s.len());
+    let start = from.min(end);
     &s[start..end]
 }
 
-// The index of the first b from one index up to another, and the other where there is none.
-pub(crate) fn find(s: &[u8], from: usize, to: usize, b: u8) -> usize
-    requires ordered { from ≤ to }
-    requires within { to ≤ length s.now }
-    ensures value { result ≡ from + index_of b (slice from to s.now) }
-    ensures in_bounds { result ≤ to }
+// Where a byte first stands.
+pub(crate) fn first(s: &[u8], b: u8) -> Option<usize>
+    ensures { result ≡ position (λ x. x == b) s.now }
 {
-    for i in from..to {
-        if s[i] == b {
-            return i;
-        }
-    }
-    to
-}
-
-fn wide(x: u8) -> u64
-    ensures { result ≡ x }
-{
-    x as u64
+    s.iter().position(|x| *x == b)
 }

@@ -1,162 +1,157 @@
 // Numbers in decimal, each up to a limit.
-ghost use Rattle.std.specs.Prelude.{◌≤◌, ◌≡◌};
-ghost use Rattle.text.specs.Numbers.{digit_of, number_of, number_at, Typed};
+ghost use Rattle.std.specs.Prelude.{◌+◌, ◌*◌, ◌<◌, ◌≤◌, ◌≡◌, min, length, IsTrue, IfSome, MatchOption};
+ghost use Rattle.std.specs.Option.{SomeIff, option_map};
+ghost use Rattle.text.specs.Words.{past};
+ghost use Rattle.text.specs.Numbers.{digit_of, number_of, number_at};
 
-use crate::wide;
-use crate::words::word_at;
+use crate::words::Words;
 
-// Where a word is no number, ok is false and value is 0.
-#[derive(Clone, Copy)]
-pub struct Number {
-    pub ok: bool,
-    pub value: u64,
+// An unsigned number of some width. Each width has an impl written out: the gate takes none that a macro wrote.
+pub trait Unsigned: Copy {
+    ghost use Rattle.std.specs.Prelude.{ℕ};
+
+    // The number that a value is.
+    ghost number: { Self → ℕ };
+
+    // The largest one.
+    ghost most: { ℕ };
+
+    fn wide(self) -> u64
+        ensures value { result ≡ number self }
+        ensures within { result ≤ most };
+
+    // The value that is a number, if one is.
+    fn narrow(n: u64) -> Option<Self>
+        ensures { MatchOption result (most < n) (λ x. number x ≡ n) };
+
+    // No two values are one number.
+    ghost apart: { (x y : Self) → number x ≡ number y → x ≡ y };
 }
 
-// A number, and the index where the next word starts.
-#[derive(Clone, Copy)]
-pub struct NumberAt {
-    pub ok: bool,
-    pub value: u64,
-    pub next: usize,
+impl Unsigned for u8 {
+    ghost number = { λ x. x };
+
+    ghost most = { 255 };
+
+    ghost apart = { λ x y e. e };
+
+    fn wide(self) -> u64 {
+        u64::from(self)
+    }
+
+    fn narrow(n: u64) -> Option<u8> {
+        u8::try_from(n).ok()
+    }
 }
 
-// The same for numbers that fit fewer bits, or count bytes.
-#[derive(Clone, Copy)]
-pub struct U8At {
-    pub ok: bool,
-    pub value: u8,
-    pub next: usize,
+impl Unsigned for u16 {
+    ghost number = { λ x. x };
+
+    ghost most = { 65535 };
+
+    ghost apart = { λ x y e. e };
+
+    fn wide(self) -> u64 {
+        u64::from(self)
+    }
+
+    fn narrow(n: u64) -> Option<u16> {
+        u16::try_from(n).ok()
+    }
 }
 
-#[derive(Clone, Copy)]
-pub struct U16At {
-    pub ok: bool,
-    pub value: u16,
-    pub next: usize,
+impl Unsigned for u32 {
+    ghost number = { λ x. x };
+
+    ghost most = { 4294967295 };
+
+    ghost apart = { λ x y e. e };
+
+    fn wide(self) -> u64 {
+        u64::from(self)
+    }
+
+    fn narrow(n: u64) -> Option<u32> {
+        u32::try_from(n).ok()
+    }
 }
 
-#[derive(Clone, Copy)]
-pub struct U32At {
-    pub ok: bool,
-    pub value: u32,
-    pub next: usize,
+impl Unsigned for u64 {
+    ghost number = { λ x. x };
+
+    ghost most = { 18446744073709551615 };
+
+    ghost apart = { λ x y e. e };
+
+    fn wide(self) -> u64 {
+        self
+    }
+
+    fn narrow(n: u64) -> Option<u64> {
+        Some(n)
+    }
 }
 
-#[derive(Clone, Copy)]
-pub struct UsizeAt {
-    pub ok: bool,
-    pub value: usize,
-    pub next: usize,
-}
+impl Unsigned for usize {
+    ghost number = { λ x. x };
 
-impl Number {
-    const NONE: Number = Number {
-        ok: false,
-        value: 0,
-    };
+    ghost most = { 18446744073709551615 };
+
+    ghost apart = { λ x y e. e };
+
+    fn wide(self) -> u64 {
+        self as u64
+    }
+
+    fn narrow(n: u64) -> Option<usize> {
+        usize::try_from(n).ok()
+    }
 }
 
 // The number that a word says: decimal digits alone, at least one, and no more than limit.
-pub fn decimal(word: &[u8], limit: u64) -> Number
-    ensures value { result ≡ number_of limit word.now }
-    ensures value_le_limit { result.value ≤ limit }
+pub fn decimal(word: &[u8], limit: u64) -> Option<u64>
+    ensures value { let n = number_of limit word.now in SomeIff result (IsTrue n.ok) n.value }
+    ensures value_le_limit { IfSome result (λ n. n ≤ limit) }
 {
-    if word.len() == 0 {
-        return Number::NONE;
+    if word.is_empty() {
+        return None;
     }
     let mut value: u64 = 0;
-    let mut i = 0;
-    while i < word.len() {
-        let d = digit(word[i]);
-        if 9 < d {
-            return Number::NONE;
-        }
-        if limit / 10 < value {
-            return Number::NONE;
-        }
-        let tens = value * 10;
-        if limit - tens < d {
-            return Number::NONE;
-        }
-        value = tens + d;
-        i += 1;
+    for b in word {
+        value = with_digit(value, *b, limit)?;
     }
-    Number { ok: true, value }
+    Some(value)
 }
 
-// The word that starts at index at, as a number.
-pub fn number_at(line: &[u8], at: usize, limit: u64) -> NumberAt
-    ensures typed { Typed (number_at limit line.now at) result.ok result.value result.next }
-    ensures value_le_limit { result.value ≤ limit }
-{
-    let w = word_at(line, at);
-    let start = w.start;
-    let end = w.end;
-    let n = decimal(&line[start..end], limit);
-    NumberAt {
-        ok: n.ok,
-        value: n.value,
-        next: w.next,
+impl<'a> Words<'a> {
+    // The next word, as a number.
+    #[tactic(auto, unfolding(crate::specs::Numbers::number_at))]
+    pub fn number<T: Unsigned>(&mut self, limit: T) -> Option<T>
+        ensures value { let n = number_at (T.number limit) self.old.line self.old.at in
+            SomeIff (option_map T.number result) (IsTrue n.ok) n.value }
+        ensures value_le_limit { IfSome result (λ x. T.number x ≤ T.number limit) }
+        ensures moved { self.new ≡ past self.old }
+        ensures on { min self.old.at (length self.old.line) < self.new.at }
+    {
+        let n = decimal(self.word(), limit.wide())?;
+        T::narrow(n)
     }
 }
 
-pub fn u8_at(line: &[u8], at: usize, limit: u8) -> U8At
-    ensures typed { Typed (number_at limit line.now at) result.ok result.value result.next }
-    ensures value_le_limit { result.value ≤ limit }
+// The number whose digits are those of value and then one more, and no more than limit.
+fn with_digit(value: u64, b: u8, limit: u64) -> Option<u64>
+    ensures { let n = value * 10 + digit_of b in SomeIff result ((digit_of b ≤ 9) × (n ≤ limit)) n }
 {
-    let n = number_at(line, at, limit as u64);
-    U8At {
-        ok: n.ok,
-        value: n.value as u8,
-        next: n.next,
-    }
+    let n = value.checked_mul(10)?.checked_add(digit(b)?)?;
+    if n <= limit { Some(n) } else { None }
 }
 
-pub fn u16_at(line: &[u8], at: usize, limit: u16) -> U16At
-    ensures typed { Typed (number_at limit line.now at) result.ok result.value result.next }
-    ensures value_le_limit { result.value ≤ limit }
+// What a decimal digit says.
+fn digit(b: u8) -> Option<u64>
+    ensures { MatchOption result (9 < digit_of b) (λ d. (d ≡ digit_of b) × (d ≤ 9)) }
 {
-    let n = number_at(line, at, limit as u64);
-    U16At {
-        ok: n.ok,
-        value: n.value as u16,
-        next: n.next,
+    match b {
+        b'0'..=b'9' => Some(u64::from(b - b'0')),
+        _ => None,
     }
-}
-
-pub fn u32_at(line: &[u8], at: usize, limit: u32) -> U32At
-    ensures typed { Typed (number_at limit line.now at) result.ok result.value result.next }
-    ensures value_le_limit { result.value ≤ limit }
-{
-    let n = number_at(line, at, limit as u64);
-    U32At {
-        ok: n.ok,
-        value: n.value as u32,
-        next: n.next,
-    }
-}
-
-pub fn usize_at(line: &[u8], at: usize, limit: usize) -> UsizeAt
-    ensures typed { Typed (number_at limit line.now at) result.ok result.value result.next }
-    ensures value_le_limit { result.value ≤ limit }
-{
-    let n = number_at(line, at, limit as u64);
-    UsizeAt {
-        ok: n.ok,
-        value: n.value as usize,
-        next: n.next,
-    }
-}
-
-// What a decimal digit says, and 10 for any other byte.
-fn digit(b: u8) -> u64
-    ensures { result ≡ digit_of b }
-{
-    if b < b'0' {
-        return 10;
-    }
-    if b'9' < b {
-        return 10;
-    }
-    wide(b - b'0')
 }

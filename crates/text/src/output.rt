@@ -1,135 +1,155 @@
-// Printing, through a buffer that the caller lends.
+// Printing, through a buffer.
 //
-// Each put writes behind what the buffer holds up to index at, and answers the index past what it wrote. Where too little is
-// free the buffer is printed first, and a text that is longer than what is kept free is printed at once: a caller never has to
-// ask for room. `flush` is for the end and for what comes before a read.
-ghost use Rattle.std.specs.Prelude.{◌+◌, ◌*◌, ◌≤◌, ◌<◌, ◌≡◌, [], ◌∷◌, length, drop};
+// Each put writes behind what the buffer holds. Where too little is free the buffer is printed first, and a text that is longer
+// than what is kept free is printed at once: a caller never has to ask for room. `flush` is for the end and for what comes before
+// a read.
+ghost use Rattle.std.specs.Prelude.{◌+◌, ◌*◌, ◌≤◌, ◌<◌, ◌≡◌, [], ◌∷◌, length, drop, replicate};
 ghost use Rattle.text.specs.Digits.{hex_digit_ascii};
 ghost use Rattle.text.specs.Buffer.{size};
 ghost use Rattle.text.specs.Output.{Put, Wrote, free, room_at, past_text, with_text};
 ghost use Rattle.text.specs.Numbers.{decimal_text};
-ghost use Rattle.text.specs.Payloads.{hex_text};
+ghost use Rattle.text.specs.Payloads.{hex_text, to_hex};
 
-use crate::{Buffer, SIZE, least};
+use crate::{Buffer, SIZE};
 use std::io::Stdout;
 
 // How many bytes are kept free: 2,048 bytes in hex.
 const FREE: usize = 4096;
 
-// Prints what is in the buffer up to index at, and answers 0, the index to go on at. What cannot be
-// printed is lost.
-pub fn flush(stdout: Stdout, out: &[u8], at: usize) -> usize
-    ensures { result ≡ 0 }
-{
-    let n = least(at, out.len());
-    let _ = stdout.write_all(&out[0..n]);
-    0
+#[derive(Drop)]
+pub struct Printer {
+    pub stdout: Stdout,
+    // With an index beside it: there is no heap here, and memory is fixed.
+    pub buffer: Buffer,
+    // The bytes before it are to be printed.
+    pub at: usize,
 }
 
-// Puts the bytes of text.
-pub fn put(stdout: Stdout, out: &mut Buffer, at: usize, text: &[u8]) -> usize
-    ensures { Put out.old at text.now out.new result }
-{
-    if text.len() <= FREE {
-        let start = room(stdout, out, at);
-        return place(out, start, text);
+impl Printer {
+    pub fn new(stdout: Stdout) -> Printer
+        ensures at { result.at ≡ 0 }
+        ensures buffer { result.buffer ≡ replicate size 0 }
+        ensures stdout { result.stdout ≡ stdout }
+    {
+        Printer {
+            stdout,
+            buffer: [0; SIZE],
+            at: 0,
+        }
     }
-    let start = flush(stdout, out, at);
-    let _ = stdout.write_all(text);
-    start
-}
 
-// Puts one byte.
-pub fn put_byte(stdout: Stdout, out: &mut Buffer, at: usize, b: u8) -> usize
-    ensures { Put out.old at (b ∷ []) out.new result }
-{
-    let start = room(stdout, out, at);
-    place_byte(out, start, b)
-}
-
-// Puts n in decimal.
-pub fn put_decimal(stdout: Stdout, out: &mut Buffer, at: usize, n: u64) -> usize
-    ensures { Put out.old at (decimal_text n) out.new result }
-{
-    let mut digits = [0u8; 20];
-    let k = decimal(n, &mut digits);
-    put(stdout, out, at, &digits[k..])
-}
-
-// Puts n in decimal, and then one byte.
-pub fn put_parted(stdout: Stdout, out: &mut Buffer, at: usize, n: u64, b: u8) -> usize
-    ensures { Put (with_text out.old at (decimal_text n)) (past_text at (decimal_text n)) (b ∷ []) out.new result }
-{
-    let past = put_decimal(stdout, out, at, n);
-    put_byte(stdout, out, past, b)
-}
-
-// Puts two hex digits for each byte of s, and `-` where there is none.
-pub fn put_hex(stdout: Stdout, out: &mut Buffer, at: usize, s: &[u8]) -> usize
-    ensures { Put out.old at (hex_text s.now) out.new result }
-{
-    if s.len() == 0 {
-        return put_byte(stdout, out, at, b'-');
+    // Prints what is in the buffer. What cannot be printed is lost.
+    pub fn flush(&mut self)
+        ensures at { self.new.at ≡ 0 }
+        ensures buffer { self.new.buffer ≡ self.old.buffer }
+    {
+        let end = self.at.min(SIZE);
+        let _ = self.stdout.write_all(&self.buffer[..end]);
+        self.at = 0;
     }
-    if s.len() <= FREE / 2 {
-        let start = room(stdout, out, at);
-        return place_hex(out, start, s);
+
+    // Puts the bytes of text.
+    pub fn put(&mut self, text: &[u8])
+        ensures { Put self.old.buffer self.old.at text.now self.new.buffer self.new.at }
+    {
+        if text.len() <= FREE {
+            self.make_room();
+            self.place(text);
+        } else {
+            self.flush();
+            let _ = self.stdout.write_all(text);
+        }
     }
-    let start = flush(stdout, out, at);
-    print_hex(stdout, s);
-    start
-}
 
-// Flushes where fewer than FREE bytes are free past index at, and answers the index to go on at.
-fn room(stdout: Stdout, out: &Buffer, at: usize) -> usize
-    ensures { (result ≡ room_at at) × (result + free ≤ size) }
-{
-    if at <= SIZE - FREE {
-        at
-    } else {
-        flush(stdout, out, at)
+    // Puts one byte.
+    pub fn put_byte(&mut self, b: u8)
+        ensures { Put self.old.buffer self.old.at (b ∷ []) self.new.buffer self.new.at }
+    {
+        self.put(&[b]);
+    }
+
+    // Puts n in decimal.
+    pub fn put_decimal(&mut self, n: u64)
+        ensures { Put self.old.buffer self.old.at (decimal_text n) self.new.buffer self.new.at }
+    {
+        let mut digits = [0; 20];
+        let start = decimal(n, &mut digits);
+        self.put(&digits[start..]);
+    }
+
+    // Puts n in decimal, and then one byte.
+    pub fn put_parted(&mut self, n: u64, b: u8)
+        ensures { Put (with_text self.old.buffer self.old.at (decimal_text n)) (past_text self.old.at (decimal_text n)) (b ∷ []) self.new.buffer self.new.at }
+    {
+        self.put_decimal(n);
+        self.put_byte(b);
+    }
+
+    // Puts two hex digits for each byte of s, and `-` where there is none.
+    pub fn put_hex(&mut self, s: &[u8])
+        ensures { Put self.old.buffer self.old.at (hex_text s.now) self.new.buffer self.new.at }
+    {
+        if s.is_empty() {
+            self.put_byte(b'-');
+        } else if s.len() <= FREE / 2 {
+            self.make_room();
+            self.place_hex(s);
+        } else {
+            self.flush();
+            self.print_hex(s);
+        }
+    }
+
+    // Flushes where fewer than FREE bytes are free.
+    fn make_room(&mut self)
+        ensures at { self.new.at ≡ room_at self.old.at }
+        ensures free { self.new.at + free ≤ size }
+        ensures buffer { self.new.buffer ≡ self.old.buffer }
+    {
+        if SIZE - FREE < self.at {
+            self.flush();
+        }
+    }
+
+    fn place(&mut self, text: &[u8])
+        requires { self.old.at + length text.now ≤ size }
+        ensures { Wrote self.old.buffer self.old.at text.now self.new.buffer self.new.at }
+    {
+        let end = self.at + text.len();
+        self.buffer[self.at..end].copy_from_slice(text);
+        self.at = end;
+    }
+
+    fn place_hex(&mut self, s: &[u8])
+        requires { (0 < length s.now) × (self.old.at + 2 * length s.now ≤ size) }
+        ensures { Wrote self.old.buffer self.old.at (hex_text s.now) self.new.buffer self.new.at }
+    {
+        let end = self.at + 2 * s.len();
+        write_hex(&mut self.buffer[self.at..end], s);
+        self.at = end;
+    }
+
+    fn print_hex(&self, s: &[u8]) {
+        for b in s {
+            let _ = self.stdout.write_all(&[glyph(b / 16), glyph(b % 16)]);
+        }
     }
 }
 
-fn place(out: &mut [u8], at: usize, text: &[u8]) -> usize
-    requires { at + length text.now ≤ length out.old }
-    ensures { Wrote out.old at text.now out.new result }
+// Writes two hex digits for each byte of s. It knows no printer, so that the compiler can write many at once. Hex, decimal and a digit
+// are written by hand: `Put` promises each of their bytes, `write!` promises those of a `String` alone, and there is no heap.
+fn write_hex(out: &mut [u8], s: &[u8])
+    requires { length out.old ≡ 2 * length s.now }
+    ensures { out.new ≡ to_hex s.now }
 {
-    out[at..at + text.len()].copy_from_slice(text);
-    at + text.len()
-}
-
-fn place_byte(out: &mut [u8], at: usize, b: u8) -> usize
-    requires { at < length out.old }
-    ensures { Wrote out.old at (b ∷ []) out.new result }
-{
-    out[at] = b;
-    at + 1
-}
-
-fn place_hex(out: &mut [u8], at: usize, s: &[u8]) -> usize
-    requires { (0 < length s.now) × (at + 2 * length s.now ≤ length out.old) }
-    ensures { Wrote out.old at (hex_text s.now) out.new result }
-{
-    let mut to = at;
-    let mut i = 0;
-    while i < s.len() {
-        let b = s[i];
-        out[to] = glyph(b / 16);
-        out[to + 1] = glyph(b % 16);
-        to += 2;
-        i += 1;
-    }
-    to
-}
-
-fn print_hex(stdout: Stdout, s: &[u8]) {
-    for b in s {
-        let _ = stdout.write_all(&[glyph(*b / 16), glyph(*b % 16)]);
+    for (i, b) in s.iter().enumerate() {
+        out[2 * i] = glyph(b / 16);
+        out[2 * i + 1] = glyph(b % 16);
     }
 }
 
-// Writes the digits of n at the end of digits, and answers the index of the first.
+// Writes the digits of n at the end of digits, and answers the index of the first. How many there are shows only as they are
+// written, so this is no loop over a range.
 fn decimal(n: u64, digits: &mut [u8; 20]) -> usize
     ensures text { drop result digits.new ≡ decimal_text n }
     ensures in_bounds { result ≤ 20 }

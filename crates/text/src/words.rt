@@ -1,44 +1,75 @@
 // Words of a line, which one space parts.
 //
-// A place in a line is an index: 0 at first, and then each word's `next`. Two spaces in a row, and
-// a space at either end, have an empty word there, and past the last word every word is empty. No
+// Two spaces in a row, and a space at either end, have an empty word there, and past the last word every word is empty. No
 // empty word is a name, a number or a payload, so a reader needs no case for a word that is missing.
-ghost use Rattle.std.specs.Prelude.{◌≤◌, ◌≡◌, length};
-ghost use Rattle.text.specs.Words.{word_at, same_bytes, done_at};
+ghost use Rattle.std.specs.Prelude.{◌<◌, ◌≤◌, ◌≡◌, min, length, IsTrue};
+ghost use Rattle.std.specs.Option.{SomeIff};
+ghost use Rattle.text.specs.Bytes.{index_of};
+ghost use Rattle.text.specs.Words.{first_place, past, bytes_at, same_bytes, done_at};
 
-use crate::{find, least};
+use crate::first;
+use std::marker::Model;
 
-// The word is line[start..end], and the next one starts at index next.
-#[derive(Clone, Copy)]
-pub struct Word {
-    pub start: usize,
-    pub end: usize,
-    pub next: usize,
+// A reader of the words of a line. A clause sees the line, and the index in it where the next word starts.
+#[derive(Drop)]
+pub struct Words<'a> {
+    line: &'a [u8],
+    at: usize,
 }
 
-// The word that starts at index at.
-pub fn word_at(line: &[u8], at: usize) -> Word
-    ensures value { result ≡ word_at line.now at }
-    ensures start_le_end { (result.start ≤ result.end) × (result.end ≤ length line.now) }
-{
-    let n = line.len();
-    let start = least(at, n);
-    let end = find(line, start, n, b' ');
-    Word {
-        start,
-        end,
-        next: end + 1,
+impl<'a> Model for Words<'a> {
+    ghost use Rattle.text.specs.Words.{Place};
+
+    ghost Value = { Place };
+
+    ghost view = { λ w. record { line = w.line.now; at = w.at } };
+}
+
+impl<'a> Words<'a> {
+    // The words of a line, from its first on.
+    pub fn of(line: &'a [u8]) -> Words<'a>
+        ensures { result ≡ first_place line.now }
+    {
+        Words { line, at: 0 }
+    }
+
+    // The next word.
+    pub fn word(&mut self) -> &'a [u8]
+        ensures value { result.now ≡ bytes_at self.old.line self.old.at }
+        ensures moved { self.new ≡ past self.old }
+        ensures on { min self.old.at (length self.old.line) < self.new.at }
+    {
+        let start = self.at.min(self.line.len());
+        let rest = &self.line[start..];
+        let len = first_length(rest);
+        self.at = start + len + 1;
+        &rest[..len]
+    }
+
+    // Whether no word is left.
+    pub fn is_done(&self) -> bool
+        ensures { result ≡ done_at self.now.line self.now.at }
+    {
+        self.line.len() < self.at
+    }
+
+    // The same, for `?`: something where no word is left.
+    pub fn end(&self) -> Option<()>
+        ensures { SomeIff result (IsTrue (done_at self.now.line self.now.at)) tt }
+    {
+        self.is_done().then_some(())
     }
 }
 
-// Whether no word is left at index at.
-pub fn done(line: &[u8], at: usize) -> bool
-    ensures { result ≡ done_at line.now at }
+// How many bytes the first word has.
+fn first_length(words: &[u8]) -> usize
+    ensures value { result ≡ index_of 32 words.now }
+    ensures within { result ≤ length words.now }
 {
-    line.len() < at
+    first(words, b' ').unwrap_or(words.len())
 }
 
-// Whether a word is the name.
+// Whether a word is the name. Kept beside `==`: docs/TRUST.md and the edit `every_word_is_the_name` name it.
 pub fn is(word: &[u8], name: &[u8]) -> bool
     ensures { result ≡ same_bytes word.now name.now }
 {

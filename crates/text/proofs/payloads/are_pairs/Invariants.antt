@@ -1,12 +1,8 @@
 -- `text::payloads::are_pairs` meets its contract. The invariant: the rest of the word decides.
-use Prim.Native.Nat.{◌≤◌, ◌-◌}
 use mathlib.Core.Path.{◌≡◌}
-use lib.ListN.{length, drop}
-use Rattle.text.specs.Payloads.{all_pairs}
+use Rattle.std.specs.Slice.Iter.{chunks_exact_rest, chunks_exact_size}
+use Rattle.text.proofs.PayloadLaws.{Pairing}
 use Rattle.text.proofs.payloads.are_pairs.Given as goal
 
-abbrev pub invariant-loop-i : goal.invariant-loop-i
-invariant-loop-i l = (l.i ≤ length l.word) × (all_pairs l.word ≡ all_pairs (drop l.i l.word))
-
-abbrev pub decreases-loop-i : goal.decreases-loop-i
-decreases-loop-i l = length l.word - l.i
+abbrev pub invariant-loop-pair : goal.invariant-loop-pair
+invariant-loop-pair l = record { whole : chunks_exact_size l.pair-iterator ≡ 2; pairing : Pairing l.word (chunks_exact_rest l.pair-iterator) }
