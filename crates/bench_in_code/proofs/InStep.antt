@@ -29,8 +29,7 @@ use Rattle.one_stream.proofs.Truth.{and_l, is_true, so}
 use Rattle.bench_in_code.specs.declared.outbox.Frame as Kept-frame
 use Rattle.bench_in_code.specs.declared.outbox.Frames.{Frames}
 use Rattle.bench_in_code.specs.Values as coded
-use Rattle.bench_in_code.specs.declared.Giving.TheVariants.{Out}
-use Rattle.bench_in_code.specs.Values.{Station, Said, Turn, Gave}
+use Rattle.bench_in_code.specs.Values.{Station, Said, Turn, Out, Gave}
 use Rattle.bench.specs.Lists.{nth, each}
 use Rattle.bench.specs.SetUp.{is_done}
 use Rattle.bench.specs.Bench.{Bench, Module, Frame, Delivery, records_of, pending_since, module_at, same_stream, is_live, book_of, Which, frame_of, owner_of}

@@ -13,9 +13,7 @@ use Rattle.node.specs.Calls.{Call, request, tick, next_frame}
 use Rattle.bench_in_code.specs.declared.outbox.Frame as Kept-frame
 use Rattle.bench_in_code.specs.declared.outbox.Frames.{Frames}
 use Rattle.bench_in_code.specs.Values as coded
-use Rattle.bench_in_code.specs.Values.{Station, Said, Turn, Asked, Told, Sent, Gave}
-use Rattle.bench_in_code.specs.declared.Giving.{Giving}
-use Rattle.bench_in_code.specs.declared.Giving.TheVariants.{Dead, Nothing, Full, Out}
+use Rattle.bench_in_code.specs.Values.{Station, Said, Turn, Asked, Told, Sent, Giving, Dead, Nothing, Full, Out, Gave}
 use Rattle.bench.specs.Lists.{nth, at, each}
 use Rattle.bench.specs.SetUp.{is_done}
 use Rattle.bench.specs.Bench.{Frame, never, Module}

@@ -11,9 +11,7 @@ use Rattle.node.specs.Calls as calls
 use Rattle.bench_in_code.specs.declared.outbox.Frame as Kept-frame
 use Rattle.bench_in_code.specs.declared.outbox.Frames.{Frames}
 use Rattle.bench_in_code.specs.Values as coded
-use Rattle.bench_in_code.specs.Values.{Said, Asked, Sent, Gave}
-use Rattle.bench_in_code.specs.declared.Giving.{Giving}
-use Rattle.bench_in_code.specs.declared.Giving.TheVariants.{Dead, Nothing, Full, Out}
+use Rattle.bench_in_code.specs.Values.{Said, Asked, Sent, Giving, Dead, Nothing, Full, Out, Gave}
 use Rattle.bench.specs.Lists.{at, every}
 use Rattle.bench.specs.Bench.{Bench, Delivery, records_of, Which, module_at, is_live, book_of, frame_of, owner_of}
 use Rattle.bench.specs.SetUp.{Entry, Part, Plan, is_done, proper, start}

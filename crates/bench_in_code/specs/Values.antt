@@ -5,7 +5,6 @@ use Rattle.node.specs.declared.Node.{Node}
 use Rattle.node.specs.Told.{Report}
 use Rattle.bench_in_code.specs.declared.outbox.Frame as Kept-frame
 use Rattle.bench_in_code.specs.declared.outbox.Frames.{Frames}
-use Rattle.bench_in_code.specs.declared.Giving.{Giving}
 
 -- a module: its node, and whether it is live
 pub record Station : Type 0 where
@@ -44,6 +43,14 @@ pub record Sent : Type 0 where
   pub bench : Bench
   pub sent : Bool
   pub said : List Said
+
+-- what became of a giving out: the module is not live; no frame is pending; no more frames are kept, so none is given out; the frame is given
+-- out, and kept as the last one
+pub data Giving : Type 0 where
+  Dead : Giving
+  Nothing : Giving
+  Full : Giving
+  Out : Giving
 
 -- giving out a module's next frame
 pub record Gave : Type 0 where

@@ -1,14 +1,16 @@
 // The bench in code: up to eight modules on a modelled bus, and what each event makes of them. A place without a module is a
-// module that was never live. The nodes stand in bytes that the caller lends, and so does what they write.
+// module that was never live. The nodes stand in bytes of the bench; what they write stands in outputs that the caller lends.
 #![tactic(auto)]
 
-ghost use Rattle.std.specs.Prelude.{◌≡◌, false, length, get_or, set, ltb};
+ghost use Rattle.std.specs.Prelude.{◌≡◌, map, ltb};
 ghost use Rattle.node.specs.Calls.{set_up, request};
-ghost use Rattle.bench_in_code.specs.InCode.{place_count, bench_of, asked, requested_in, no_frame, giving_of, sending_of, tick_of};
-ghost use Rattle.bench_in_code.specs.InBytes.{bench_in, live_of, Dies, spoken_in, outputs_in, answered_of, sent_of, given_of};
+ghost use Rattle.bench.specs.Lists.{at};
+ghost use Rattle.bench.specs.Events.{dead};
+ghost use Rattle.bench_in_code.specs.InCode.{place_count, places, is_live_in, bench_of, asked, requested_in, giving_of, sending_of, tick_of, on_module};
+ghost use Rattle.bench_in_code.specs.InBytes.{bench_in, fresh_bench, died, answer_of, given_of, sent_of, ticked_in, outputs_in};
 
 use crate::outbox::{Frame, Frames};
-use crate::stations::{NodeBytes, Output, Spoken};
+use crate::stations::{CLEAR, Hearing, Module, Output, Ticking};
 use wire::ids::Stream;
 use wire::reply::Reply;
 use wire::settings::Settings;
@@ -16,55 +18,19 @@ use wire::settings::Settings;
 pub mod outbox;
 pub mod stations;
 
-// Who is live. The nodes are lent to each call.
+// The modules of the eight places.
 #[derive(Clone, Copy)]
 pub struct Bench {
-    pub live: [bool; Bench::PLACES],
+    pub modules: [Module; Bench::PLACES],
 }
 
-// The nodes of the eight places, and the outputs of what they say.
-pub type Nodes = [NodeBytes; Bench::PLACES];
-
+// The outputs of what they say, place by place.
 pub type Outputs = [Output; Bench::PLACES];
 
-// How many places there are. An array has as many as its type says; lent as a slice, it says so.
-fn places(nodes: &[NodeBytes]) -> usize
-    ensures { result ≡ length nodes.now }
-{
-    nodes.len()
-}
-
-// And as many outputs.
-fn places_with(nodes: &[NodeBytes], _outs: &[Output]) -> usize
-    ensures { result ≡ length nodes.now }
-{
-    nodes.len()
-}
-
-// What a set up or a request answers; where `there` is false nobody answered, and nothing changed.
+// What giving out a module's next frame answers. Kept as one enum: these are four answers, and two of those without a frame, a dead
+// module and no frame pending, are no errors.
 #[derive(Clone, Copy)]
-pub struct Answered {
-    pub there: bool,
-    pub reply: Reply,
-}
-
-impl Answered {
-    // Nobody answers.
-    const NOBODY: Answered = Answered {
-        there: false,
-        reply: Reply::Done,
-    };
-}
-
-// What a sending answers; where `sent` is false the frame's owner was not live, and nothing changed.
-#[derive(Clone, Copy)]
-pub struct Sending {
-    pub sent: bool,
-    pub said: [Spoken; Bench::PLACES],
-}
-
-#[derive(Clone, Copy)]
-pub enum Giving {
+pub enum Given {
     // The module is not live.
     Dead,
     // No frame is pending.
@@ -72,28 +38,7 @@ pub enum Giving {
     // No more frames are kept, so none is given out.
     Full,
     // The frame is given out, and kept as the last one.
-    Out,
-}
-
-// What giving out a module's next frame answers.
-#[derive(Clone, Copy)]
-pub struct Given {
-    pub frames: Frames,
-    pub giving: Giving,
-    pub frame: Frame,
-}
-
-impl Given {
-    // No frame is given out, and nothing changes.
-    fn none(frames: Frames, giving: Giving) -> Given
-        ensures { result ≡ record { frames = frames; giving = giving; frame = no_frame } }
-    {
-        Given {
-            frames,
-            giving,
-            frame: Frame::NONE,
-        }
-    }
+    Out(Frame),
 }
 
 impl Bench {
@@ -101,155 +46,134 @@ impl Bench {
     pub const PLACES: usize = 8;
 
     // So many fresh modules, at most eight.
-    pub fn of(n: usize, nodes: &mut Nodes) -> Bench
-        ensures answer { result ≡ record { live = live_of n } }
-        ensures leaves { bench_in (live_of n) nodes.new ≡ bench_of n }
+    pub fn of(n: usize) -> Bench
+        ensures answer { result ≡ fresh_bench n }
+        ensures leaves { bench_in result ≡ bench_of n }
     {
-        *nodes = [stations::FRESH; Bench::PLACES];
+        // Place by place: by `array::from_fn` the check does not find the clause `leaves`.
         Bench {
-            live: [0 < n, 1 < n, 2 < n, 3 < n, 4 < n, 5 < n, 6 < n, 7 < n],
+            modules: [
+                Module::fresh(0 < n),
+                Module::fresh(1 < n),
+                Module::fresh(2 < n),
+                Module::fresh(3 < n),
+                Module::fresh(4 < n),
+                Module::fresh(5 < n),
+                Module::fresh(6 < n),
+                Module::fresh(7 < n),
+            ],
         }
     }
 
-    // Sets up a stream at a module.
+    // Sets up a stream at a module. None where no module is there: nobody answered, and nothing changed.
     pub fn set_up(
-        self,
-        nodes: &mut Nodes,
+        &mut self,
         who: usize,
         stream: Stream,
         settings: Settings,
-    ) -> Answered
-        ensures answer { result ≡ answered_of (asked (ltb who place_count) (set_up stream settings) who (bench_in self.live nodes.old)) }
-        ensures leaves { bench_in self.live nodes.new
-            ≡ (asked (ltb who place_count) (set_up stream settings) who (bench_in self.live nodes.old)).bench }
+    ) -> Option<Result<(), Reply>>
+        ensures answer { result ≡ answer_of (asked (ltb who place_count) (set_up stream settings) who (bench_in self.old)) }
+        ensures leaves { bench_in self.new ≡ (asked (ltb who place_count) (set_up stream settings) who (bench_in self.old)).bench }
     {
-        if who >= places(nodes) {
-            return Answered::NOBODY;
+        if who >= Bench::PLACES {
+            return None;
         }
-        let reply = node_bytes::set_up::set_up(&mut nodes[who], stream, settings);
-        Answered { there: true, reply }
+        Some(self.modules[who].set_up(stream, settings))
     }
 
-    // A module's application asks for a message to be sent.
-    pub fn request(self, nodes: &mut Nodes, who: usize, stream: Stream, payload: &[u8]) -> Answered
-        ensures answer { result ≡ answered_of (requested_in who stream payload.now (bench_in self.live nodes.old)) }
-        ensures leaves { bench_in self.live nodes.new
-            ≡ (requested_in who stream payload.now (bench_in self.live nodes.old)).bench }
+    // A module's application asks for a message to be sent. None where the module is not live.
+    pub fn request(
+        &mut self,
+        who: usize,
+        stream: Stream,
+        payload: &[u8],
+    ) -> Option<Result<(), Reply>>
+        ensures answer { result ≡ answer_of (requested_in who stream payload.now (bench_in self.old)) }
+        ensures leaves { bench_in self.new ≡ (requested_in who stream payload.now (bench_in self.old)).bench }
     {
-        if who >= places(nodes) {
-            return Answered::NOBODY;
+        if !self.is_live(who) {
+            return None;
         }
-        if !self.live[who] {
-            return Answered::NOBODY;
-        }
-        let reply = node_bytes::request::request(&mut nodes[who], stream, payload);
-        Answered { there: true, reply }
+        Some(self.modules[who].request(stream, payload))
     }
 
     // A module's next frame is given out, and kept with the frames given out before.
-    pub fn give(self, nodes: &mut Nodes, who: usize, frames: Frames) -> Given
-        ensures answer { result ≡ given_of (giving_of who frames (bench_in self.live nodes.old)) }
-        ensures leaves { bench_in self.live nodes.new ≡ (giving_of who frames (bench_in self.live nodes.old)).bench }
+    pub fn give(&mut self, who: usize, frames: &mut Frames) -> Given
+        ensures answer { result ≡ given_of (giving_of who frames.old (bench_in self.old)) }
+        ensures frames { frames.new ≡ (giving_of who frames.old (bench_in self.old)).frames }
+        ensures leaves { bench_in self.new ≡ (giving_of who frames.old (bench_in self.old)).bench }
     {
-        if who >= places(nodes) {
-            return Given::none(frames, Giving::Dead);
+        if !self.is_live(who) {
+            return Given::Dead;
         }
-        if !self.live[who] {
-            return Given::none(frames, Giving::Dead);
-        }
-        let before = nodes[who];
-        let answer = stations::give(before);
-        let reply = answer.reply;
-        if reply.number() != 0 {
-            return Given::none(frames, Giving::Nothing);
-        }
-        if frames.count >= Frames::MOST {
-            return Given::none(frames, Giving::Full);
-        }
-        let after = answer.node;
-        nodes[who] = after;
-        let id = answer.id;
-        let bytes = answer.bytes;
-        let f = Frame {
-            owner: who,
-            id: id,
-            len: answer.len,
-            bytes: bytes,
+        // A copy is asked: where no more frames are kept, the module keeps its frame.
+        let mut module = self.modules[who];
+        let Ok(frame) = module.give(who) else {
+            return Given::Nothing;
         };
-        Given {
-            frames: frames.with(f),
-            giving: Giving::Out,
-            frame: f,
+        if frames.count >= Frames::MOST {
+            return Given::Full;
         }
+        self.modules[who] = module;
+        frames.push(frame);
+        Given::Out(frame)
     }
 
     // Whether the module is live.
-    pub fn is_live(self, who: usize) -> bool
-        ensures { result ≡ get_or self.live who false }
+    pub fn is_live(&self, who: usize) -> bool
+        ensures { result ≡ is_live_in who (bench_in self.now) }
     {
         if who >= Bench::PLACES {
             return false;
         }
-        self.live[who]
+        self.modules[who].live
     }
 
-    // A frame is sent, and heard by the live modules of those named, other than its owner.
+    // A frame is sent, and heard by the live modules of those named, other than its owner. None where the owner is not live: nothing
+    // changed, and nothing is written.
     pub fn send(
-        self,
-        nodes: &mut Nodes,
+        &mut self,
         frame: Frame,
         to: [bool; Bench::PLACES],
         outs: &mut Outputs,
-    ) -> Sending
-        ensures answer { result ≡ sent_of (sending_of frame to (bench_in self.live nodes.old)) }
-        ensures outputs { outs.new ≡ outputs_in (sending_of frame to (bench_in self.live nodes.old)).said }
-        ensures leaves { bench_in self.live nodes.new ≡ (sending_of frame to (bench_in self.live nodes.old)).bench }
+    ) -> Option<[Hearing; Bench::PLACES]>
+        ensures answer { result ≡ sent_of (sending_of frame to (bench_in self.old)) }
+        ensures outputs { outs.new ≡ outputs_in (sending_of frame to (bench_in self.old)).said }
+        ensures leaves { bench_in self.new ≡ (sending_of frame to (bench_in self.old)).bench }
     {
-        let mut i = places_with(nodes, outs);
-        let mut said = [Spoken::NOTHING; Bench::PLACES];
         if !self.is_live(frame.owner) {
-            *outs = [stations::CLEAR; Bench::PLACES];
-            return Sending { sent: false, said };
+            *outs = [CLEAR; Bench::PLACES];
+            return None;
         }
-        let live = self.live;
-        while i > 0 {
-            i -= 1;
-            said[i] = stations::hear(
-                live[i],
-                to[i],
-                i == frame.owner,
-                &mut nodes[i],
-                frame,
-                &mut outs[i],
-            );
+        let mut said = [None; Bench::PLACES];
+        // By index: the modules, whom it is to, what is said and what is written go side by side.
+        for i in 0..Bench::PLACES {
+            said[i] = self.modules[i].hear(to[i], i == frame.owner, frame, &mut outs[i]);
         }
-        Sending { sent: true, said }
+        Some(said)
     }
 
     // A common tick reaches every live module.
-    pub fn tick(self, nodes: &mut Nodes, outs: &mut Outputs) -> [Spoken; Bench::PLACES]
-        ensures answer { result ≡ spoken_in (tick_of (bench_in self.live nodes.old)).said }
-        ensures outputs { outs.new ≡ outputs_in (tick_of (bench_in self.live nodes.old)).said }
-        ensures leaves { bench_in self.live nodes.new ≡ (tick_of (bench_in self.live nodes.old)).bench }
+    pub fn tick(&mut self, outs: &mut Outputs) -> [Ticking; Bench::PLACES]
+        ensures answer { result ≡ ticked_in (tick_of (bench_in self.old)).said }
+        ensures outputs { outs.new ≡ outputs_in (tick_of (bench_in self.old)).said }
+        ensures leaves { bench_in self.new ≡ (tick_of (bench_in self.old)).bench }
     {
-        let live = self.live;
-        let mut said = [Spoken::NOTHING; Bench::PLACES];
-        let mut i = places_with(nodes, outs);
-        while i > 0 {
-            i -= 1;
-            said[i] = stations::tick(live[i], &mut nodes[i], &mut outs[i]);
+        let mut said = [None; Bench::PLACES];
+        // By index, as in `send`: the modules, what is said and what is written go side by side.
+        for i in 0..Bench::PLACES {
+            said[i] = self.modules[i].tick(&mut outs[i]);
         }
         said
     }
 
     // A module dies.
-    pub fn death(mut self, who: usize) -> Bench
-        ensures answer { result ≡ record { live = set self.live who false } }
-        ensures leaves { Dies who self.live result.live }
+    pub fn death(&mut self, who: usize)
+        ensures modules { self.new.modules ≡ at died who self.old.modules }
+        ensures leaves { bench_in self.new ≡ on_module dead who (bench_in self.old) }
     {
         if who < Bench::PLACES {
-            self.live[who] = false;
+            self.modules[who].live = false;
         }
-        self
     }
 }

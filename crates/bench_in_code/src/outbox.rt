@@ -1,11 +1,13 @@
 // The frames that were given out, the first of them at 0.
 ghost use Rattle.std.specs.Prelude.{◌≡◌, ◌≤◌, length};
 ghost use Rattle.wire.specs.Frames.{max_payload};
-ghost use Rattle.bench_in_code.specs.InCode.{payload_of, no_frames, frame_in, with_frame};
+ghost use Rattle.bench_in_code.specs.InCode.{payload_of, no_frames, with_frame};
+ghost use Rattle.bench_in_code.specs.InBytes.{frame_at};
 
 use wire::frame::{MAX_PAYLOAD, at_most_payload};
 use wire::ids::BusId;
 
+// The payload is kept with its length: no heap, and as many bytes for each frame.
 #[derive(Clone, Copy)]
 pub struct Frame {
     pub owner: usize,
@@ -17,28 +19,23 @@ pub struct Frame {
 impl Frame {
     pub const ROOM: usize = MAX_PAYLOAD;
 
-    pub const NONE: Frame = Frame {
+    const NONE: Frame = Frame {
         owner: 0,
         id: BusId(0),
         len: 0,
         bytes: [0; Frame::ROOM],
     };
 
-    // The length of the payload, which has at most eight bytes.
-    pub fn payload_length(self) -> usize
-        ensures { (result ≡ length (payload_of self)) × (result ≤ max_payload) }
+    // The payload, which has at most eight bytes.
+    pub fn payload(&self) -> &[u8]
+        ensures { (result.now ≡ payload_of self.now) × (length result.now ≤ max_payload) }
     {
-        at_most_payload(self.len)
-    }
-
-    // The payload and the zeros after it, eight bytes in all.
-    pub fn all_bytes(self) -> [u8; Frame::ROOM]
-        ensures { (result ≡ self.bytes) × (length result ≡ max_payload) }
-    {
-        self.bytes
+        let n = at_most_payload(self.len);
+        &self.bytes[..n]
     }
 }
 
+// Kept as an array with its count: no heap, and room for as many frames from the start.
 #[derive(Clone, Copy)]
 pub struct Frames {
     pub all: [Frame; Frames::MOST],
@@ -58,24 +55,23 @@ impl Frames {
         }
     }
 
-    // With one more; where it is full, as before.
-    pub fn with(mut self, frame: Frame) -> Frames
-        ensures { result ≡ with_frame frame self }
+    // Takes one more; where it is full, it stays as it was.
+    pub fn push(&mut self, frame: Frame)
+        ensures { self.new ≡ with_frame frame self.old }
     {
         if self.count < Frames::MOST {
             self.all[self.count] = frame;
             self.count += 1;
         }
-        self
     }
 
     // The nth frame; past those given out, none.
-    pub fn at(self, n: usize) -> Frame
-        ensures { result ≡ frame_in n self }
+    pub fn at(&self, n: usize) -> Option<Frame>
+        ensures { result ≡ frame_at n self.now }
     {
-        if n >= Frames::MOST {
-            return Frame::NONE;
+        if n >= self.count || n >= Frames::MOST {
+            return None;
         }
-        self.all[n]
+        Some(self.all[n])
     }
 }

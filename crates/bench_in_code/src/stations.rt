@@ -1,146 +1,101 @@
-// A module: its node, in lent bytes, and whether it is live. What it answers to an event.
-ghost use Rattle.std.specs.Prelude.{◌≡◌, true, replicate};
-ghost use Rattle.wire.specs.Frames.{max_payload};
-ghost use Rattle.wire.specs.Delivered.{over};
-ghost use Rattle.node.specs.Nodes.{as_given};
-ghost use Rattle.node.specs.Clock.{rolled};
-ghost use Rattle.node.specs.Calls.{outcome};
-ghost use Rattle.node_bytes.specs.Decoding.{decode};
-ghost use Rattle.bench_in_code.specs.InCode.{tick_turn, hear_turn, next as next_call};
-ghost use Rattle.bench_in_code.specs.InBytes.{station_in, spoken_of, spoken_of_frame, spoken_of_tick};
+// A module: its node, in bytes, and whether it is live. What it answers to an event.
+ghost use Rattle.std.specs.Prelude.{◌≡◌};
+ghost use Rattle.wire.specs.Answers.{answered};
+ghost use Rattle.node.specs.Nodes.{as_answered};
+ghost use Rattle.node.specs.Calls.{set_up, request};
+ghost use Rattle.bench_in_code.specs.InCode.{tick_turn, hear_turn, given_by, next as next_call};
+ghost use Rattle.bench_in_code.specs.InBytes.{station_in, fresh_module, outcome_in, left_by, hearing_of, ticking_of};
 
 use crate::outbox::Frame;
-use node::Node;
-use node::told::Told;
-use node_bytes::hear::LentHeard;
+use node::{Heard, Node, Ticked};
 use node_bytes::layout::NODE_SIZE;
 use node_bytes::next_frame::next_frame;
-use node_bytes::tick::LentTicked;
-use wire::ids::BusId;
+use wire::ids::Stream;
 use wire::reply::Reply;
+use wire::settings::Settings;
 
-pub type NodeBytes = [u8; NODE_SIZE];
+// What a module writes, behind it zeros: room for what any call writes.
+pub type Output = [u8; Node::TICK_ROOM];
 
-// A node before any call.
-pub const FRESH: NodeBytes = [0; NODE_SIZE];
+pub const CLEAR: Output = [0; Node::TICK_ROOM];
 
-// What a module writes, behind it zeros.
-pub type Output = [u8; Spoken::ROOM];
+// What a module answered to a frame, and what to a tick; None where that did not reach it.
+pub type Hearing = Option<Result<Heard, Reply>>;
 
-pub const CLEAR: Output = [0; Spoken::ROOM];
+pub type Ticking = Option<Result<Ticked, Reply>>;
 
-// What a module answered to an event: its reply, how many bytes of its output it wrote, what a frame did, and how many messages a tick
-// dropped and delivered. Where `heard` is false, the event did not reach it.
 #[derive(Clone, Copy)]
-pub struct Spoken {
-    pub heard: bool,
-    pub reply: Reply,
-    pub len: usize,
-    pub told: Told,
-    pub dropped: u32,
-    pub delivered: u32,
+pub struct Module {
+    pub node: [u8; NODE_SIZE],
+    pub live: bool,
 }
 
-impl Spoken {
-    // Room for what any call writes.
-    pub const ROOM: usize = Node::TICK_ROOM;
-
-    pub const NOTHING: Spoken = Spoken {
-        heard: false,
-        reply: Reply::Done,
-        len: 0,
-        told: Told::Nothing,
-        dropped: 0,
-        delivered: 0,
-    };
-
-    fn of_frame(answer: LentHeard) -> Spoken
-        ensures { result ≡ spoken_of_frame answer }
+impl Module {
+    // Before any call.
+    pub fn fresh(live: bool) -> Module
+        ensures { result ≡ fresh_module live }
     {
-        let reply = answer.reply;
-        let told = answer.told;
-        Spoken {
-            heard: true,
-            reply: reply,
-            len: answer.written,
-            told: told,
-            dropped: 0,
-            delivered: 0,
+        Module {
+            node: [0; NODE_SIZE],
+            live,
         }
     }
 
-    fn of_tick(answer: LentTicked) -> Spoken
-        ensures { result ≡ spoken_of_tick answer }
+    // A stream is set up at its node.
+    pub(crate) fn set_up(&mut self, stream: Stream, settings: Settings) -> Result<(), Reply>
+        ensures answer { result ≡ as_answered (outcome_in (set_up stream settings) self.old) }
+        ensures leaves { station_in self.new ≡ left_by (set_up stream settings) self.old }
     {
-        let reply = answer.reply;
-        Spoken {
-            heard: true,
-            reply: reply,
-            len: answer.written,
-            told: Told::Nothing,
-            dropped: answer.dropped,
-            delivered: answer.delivered,
+        node_bytes::set_up::set_up(&mut self.node, stream, settings)
+    }
+
+    // Its node is asked for a message to be sent.
+    pub(crate) fn request(&mut self, stream: Stream, payload: &[u8]) -> Result<(), Reply>
+        ensures answer { result ≡ as_answered (outcome_in (request stream payload.now) self.old) }
+        ensures leaves { station_in self.new ≡ left_by (request stream payload.now) self.old }
+    {
+        node_bytes::request::request(&mut self.node, stream, payload)
+    }
+
+    // A sending of the frame reaches the module if it is live and named and does not own the frame.
+    pub(crate) fn hear(&mut self, named: bool, own: bool, frame: Frame, out: &mut Output) -> Hearing
+        ensures answer { result ≡ hearing_of (hear_turn named own frame (station_in self.old)).said }
+        ensures output { out.new ≡ (hear_turn named own frame (station_in self.old)).said.bytes }
+        ensures leaves { station_in self.new ≡ (hear_turn named own frame (station_in self.old)).after }
+    {
+        *out = CLEAR;
+        if !(self.live & named & !own) {
+            return None;
         }
+        let payload = frame.payload();
+        let n = payload.len() as u8;
+        Some(node_bytes::hear::hear(&mut self.node, frame.id, n, payload, out))
     }
-}
 
-// A sending of the frame reaches the module if it is live and named and does not own the frame.
-pub(crate) fn hear(
-    live: bool,
-    named: bool,
-    own: bool,
-    node: &mut NodeBytes,
-    frame: Frame,
-    out: &mut Output,
-) -> Spoken
-    ensures answer { result ≡ spoken_of (hear_turn named own frame (station_in live node.old)).said }
-    ensures output { out.new ≡ (hear_turn named own frame (station_in live node.old)).said.bytes }
-    ensures leaves { station_in live node.new ≡ (hear_turn named own frame (station_in live node.old)).after }
-{
-    *out = CLEAR;
-    if !(live & named & !own) {
-        return Spoken::NOTHING;
+    pub(crate) fn tick(&mut self, out: &mut Output) -> Ticking
+        ensures answer { result ≡ ticking_of (tick_turn (station_in self.old)).said }
+        ensures output { out.new ≡ (tick_turn (station_in self.old)).said.bytes }
+        ensures leaves { station_in self.new ≡ (tick_turn (station_in self.old)).after }
+    {
+        *out = CLEAR;
+        if !self.live {
+            return None;
+        }
+        Some(node_bytes::tick::tick(&mut self.node, out))
     }
-    let bytes = frame.all_bytes();
-    let n = frame.payload_length();
-    Spoken::of_frame(node_bytes::hear::hear(node, frame.id, n as u8, &bytes[0..n], out))
-}
 
-pub(crate) fn tick(live: bool, node: &mut NodeBytes, out: &mut Output) -> Spoken
-    ensures answer { result ≡ spoken_of (tick_turn (station_in live node.old)).said }
-    ensures output { out.new ≡ (tick_turn (station_in live node.old)).said.bytes }
-    ensures leaves { station_in live node.new ≡ (tick_turn (station_in live node.old)).after }
-{
-    *out = CLEAR;
-    if !live {
-        return Spoken::NOTHING;
-    }
-    Spoken::of_tick(node_bytes::tick::tick(node, out))
-}
-
-// A node after its next frame was given out, and that frame.
-#[derive(Clone, Copy)]
-pub(crate) struct Next {
-    pub node: NodeBytes,
-    pub reply: Reply,
-    pub id: BusId,
-    pub len: usize,
-    pub bytes: [u8; Frame::ROOM],
-}
-
-pub(crate) fn give(mut node: NodeBytes) -> Next
-    ensures answer { record { node = decode result.node; reply = result.reply; id = result.id; len = result.len } ≡ as_given (outcome rolled next_call (decode node)) }
-    ensures output { result.bytes ≡ over (outcome rolled next_call (decode node)).bytes (replicate max_payload 0) }
-{
-    let mut bytes = [0u8; Frame::ROOM];
-    let answer = next_frame(&mut node, &mut bytes);
-    let reply = answer.reply;
-    let id = answer.id;
-    Next {
-        node: node,
-        reply: reply,
-        id: id,
-        len: answer.len,
-        bytes: bytes,
+    // Its next frame, of this owner, is given out.
+    pub(crate) fn give(&mut self, owner: usize) -> Result<Frame, Reply>
+        ensures answer { result ≡ answered (outcome_in next_call self.old).reply (given_by owner (outcome_in next_call self.old)) }
+        ensures leaves { station_in self.new ≡ left_by next_call self.old }
+    {
+        let mut bytes = [0; Frame::ROOM];
+        let given = next_frame(&mut self.node, &mut bytes)?;
+        Ok(Frame {
+            owner,
+            id: given.id,
+            len: given.len,
+            bytes,
+        })
     }
 }

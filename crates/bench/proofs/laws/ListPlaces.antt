@@ -1,5 +1,5 @@
--- Places of a list: reading and changing one, and a loop from the last place down that makes something of each element.
-use mathlib.Core.Path.{◌≡◌, refl, sym, ap}
+-- Places of a list: reading and changing one, and what is made of each element.
+use mathlib.Core.Path.{◌≡◌, refl, ap}
 use mathlib.Core.List.{List, [], ◌∷◌, map}
 use Prim.Native.Nat.{ℕ, zero, suc, ◌+◌, ◌≤◌, ◌<◌}
 use native.Mathlib.Nat.{le_of_suc-le-suc, not-suc-le-zero}
@@ -35,45 +35,11 @@ module _ {A : Type 0} where
     at_past zero (x ∷ xs) h = absurd (not-suc-le-zero h)
     at_past (suc i) (x ∷ xs) h = ap (λ (r : List A). x ∷ r) (at_past i xs (le_of_suc-le-suc h))
 
--- from place i on, what g makes of each element and its place; before, what front does. Places are counted from k.
-module _ {A B : Type 0} (front : A → B) (g : ℕ → A → B) where
-  unfoldable pub made_from : (i k : ℕ) → List A → List B
-  made_from zero k l = each g k l
-  made_from (suc i) k [] = []
-  made_from (suc i) k (x ∷ xs) = front x ∷ made_from i (suc k) xs
-
-  pub none_made : (n k : ℕ) (l : List A) → length l ≡ n → made_from n k l ≡ map front l
-  unfolding made_from
-  none_made zero k [] e = refl
-  none_made zero k (x ∷ xs) e = absurd (omega arith)
-  none_made (suc n) k [] e = refl
-  none_made (suc n) k (x ∷ xs) e = ap (λ (r : List B). front x ∷ r) (none_made n (suc k) xs (omega arith))
-
-  pub one_more_made : (j k n : ℕ) (l : List A) (d : A) → j < length l → k + j ≡ n
-      → set (made_from (suc j) k l) j (g n (get_or l j d)) ≡ made_from j k l
-  unfolding made_from
-  one_more_made j k n [] d h e = absurd (not-suc-le-zero h)
-  one_more_made zero k n (x ∷ xs) d h e =
-      let same : k ≡ n = omega arith in
-      ap (λ (m : ℕ). g m x ∷ each g (suc k) xs) (sym same)
-  one_more_made (suc j) k n (x ∷ xs) d h e =
-      ap (λ (r : List B). front x ∷ r) (one_more_made j (suc k) n xs d (le_of_suc-le-suc h) (omega arith))
-
-  pub not_yet_made : (j k : ℕ) (l : List A) (d : B) (d' : A) → j < length l → get_or (made_from (suc j) k l) j d ≡ front (get_or l j d')
-  unfolding made_from
-  not_yet_made j k [] d d' h = absurd (not-suc-le-zero h)
-  not_yet_made zero k (x ∷ xs) d d' h = refl
-  not_yet_made (suc j) k (x ∷ xs) d d' h = not_yet_made j (suc k) xs d d' (le_of_suc-le-suc h)
-
 pub all_the_same : {A B : Type 0} (z : B) (n : ℕ) (l : List A) → length l ≡ n → map (λ (x : A). z) l ≡ replicate n z
 all_the_same z zero [] e = refl
 all_the_same z zero (x ∷ xs) e = absurd (omega arith)
 all_the_same z (suc n) [] e = absurd (omega arith)
 all_the_same z (suc n) (x ∷ xs) e = ap (λ r. z ∷ r) (all_the_same z n xs (omega arith))
-
-pub map_same : {A : Type 0} (l : List A) → map (λ (x : A). x) l ≡ l
-map_same [] = refl
-map_same (x ∷ xs) = ap (λ r. x ∷ r) (map_same xs)
 
 pub map_each : {A B C : Type 0} (f : B → C) (g : ℕ → A → B) (k : ℕ) (l : List A) → map f (each g k l) ≡ each (λ i x. f (g i x)) k l
 map_each f g k [] = refl

@@ -1,66 +1,58 @@
 -- `Bench::give` meets its contract: each return cites the way through the definition.
-use native.Mathlib.Omega.{arith}
-use mathlib.Core.Path.{◌≡◌, refl, sym, ◌∙◌}
-use mathlib.Core.List.{[]}
-use Prim.Native.Nat.{◌<◌}
-use lib.ListN.{length}
-use borrow.Author.Tests.{not-true, not-false, eq-eqb, ne_eqb}
-use borrow.Author.Rules.{rules}
+use Rattle.std.proofs.Common.{rules, ◌≡◌, ◌<◌, length, sym, arith}
 use Rattle.bench_in_code.specs.InBytes.{bench_in}
-use Rattle.bench_in_code.proofs.StationsInBytes.{is_live_in_law}
-use Rattle.bench_in_code.proofs.CallsInCode.{eight_places, past_is_dead, dead_in, nothing_in, full_in, given_in}
+use Rattle.bench_in_code.proofs.StationsInBytes.{eight_places, live_is_there}
+use Rattle.bench_in_code.proofs.CallsInCode.{dead_in, nothing_in, full_in, given_in}
 use Rattle.bench_in_code.proofs.Bench.give.Goals as goal
+use Rattle.bench_in_code.proofs.Bench.give.Goals.{Start, Else-not-is_live}
 
-pub returns-then-who-places : goal.returns-then-who-places
-returns-then-who-places c =
-    let a = c.args in
-    let eight : length a.nodes.now ≡ 8 = search rules in
-    let dead = sym (past_is_dead (bench_in a.self.live a.nodes.now) (eight_places _ _ eight) a.who (omega (arith, c.places.ensures))) in
-    let t = dead_in a.self.live a.nodes.now eight a.who a.frames dead in
-    record { answer = c.none.ensures ∙ t.0; leaves = t.1 }
+eight : (c : Start) → length c.args.self.now.modules ≡ 8
+eight c = search rules
 
-pub returns-then-not-self-who : goal.returns-then-not-self-who
-returns-then-not-self-who c =
+pub returns-then-not-is_live : goal.returns-then-not-is_live
+returns-then-not-is_live c =
     let a = c.args in
-    let eight : length a.nodes.now ≡ 8 = search rules in
-    let eight_live : length a.self.live ≡ 8 = search rules in
-    let dead = is_live_in_law a.self.live a.nodes.now a.who (omega arith) ∙ not-true _ c.if-not-self-who.true-raw in
-    let t = dead_in a.self.live a.nodes.now eight a.who a.frames dead in
-    record { answer = c.none-then-not-self-who.ensures ∙ t.0; leaves = t.1 }
+    let t = dead_in a.self.now (eight (goal.at.returns-then-not-is_live c).Start) a.who a.frames.now (sym c.if-not-is_live.ensures) in
+    record { answer = t.0; frames = t.1.0; leaves = t.1.1 }
 
--- ── the module is live, and its node was asked ──
-pub returns-then-number-ne0 : goal.returns-then-number-ne0
-returns-then-number-ne0 c =
+-- a module that is live has a place
+there : (c : Else-not-is_live) → c.before.args.who < 8
+there c =
+    let a = c.before.args in
+    live_is_there (bench_in a.self.now) (eight_places a.self.now (eight (goal.at.Else-not-is_live c).Start)) a.who (sym c.if-not-is_live.ensures)
+
+pub offset_bounds-self-who : goal.offset_bounds-self-who
+offset_bounds-self-who c = let h = there (goal.at.offset_bounds-self-who c).Else-not-is_live in omega (arith, h)
+
+pub bounds-self-who : goal.bounds-self-who
+bounds-self-who c = there (goal.at.bounds-self-who c).Else-not-is_live
+
+pub offset_bounds-self-who-2 : goal.offset_bounds-self-who-2
+offset_bounds-self-who-2 c = let h = there (goal.at.offset_bounds-self-who-2 c).Else-not-is_live in omega (arith, h)
+
+pub bounds-self-who-2 : goal.bounds-self-who-2
+bounds-self-who-2 c = there (goal.at.bounds-self-who-2 c).Else-not-is_live
+
+-- ── its node was asked ──
+pub returns-in_default : goal.returns-in_default
+returns-in_default c =
     let a = c.args in
-    let eight : length a.nodes.now ≡ 8 = search rules in
-    let eight_live : length a.self.live ≡ 8 = search rules in
-    let live = is_live_in_law a.self.live a.nodes.now a.who (omega arith) ∙ not-false _ c.if-not-self-who.false-raw in
-    let inside : a.who < 8 = omega (arith, c.places.ensures) in
-    let refused = ne_eqb _ 0 (λ i. c.if-number-ne0.true (c.number.ensures ∙ i)) in
-    let says = c.give-answer.ensures in
-    let t = nothing_in a.self.live a.nodes.now eight a.who a.frames live inside [] _ _ refl _ (says.answer, says.output) refused in
-    record { answer = c.none-then-number-ne0.ensures ∙ t.0; leaves = t.1 }
+    let live = sym c.if-not-is_live.ensures in
+    let t = nothing_in a.self.now (eight (goal.at.returns-in_default c).Start) a.who a.frames.now live _ c.in_default.ensures.answer in
+    record { answer = t.0; frames = t.1.0; leaves = t.1.1 }
 
 pub returns-then-frames-ge-MOST : goal.returns-then-frames-ge-MOST
 returns-then-frames-ge-MOST c =
     let a = c.args in
-    let eight : length a.nodes.now ≡ 8 = search rules in
-    let eight_live : length a.self.live ≡ 8 = search rules in
-    let live = is_live_in_law a.self.live a.nodes.now a.who (omega arith) ∙ not-false _ c.if-not-self-who.false-raw in
-    let inside : a.who < 8 = omega (arith, c.places.ensures) in
-    let done = eq-eqb _ 0 (sym c.number.ensures ∙ c.if-number-ne0.false) in
-    let says = c.give-answer.ensures in
-    let t = full_in a.self.live a.nodes.now eight a.who a.frames live inside [] _ _ refl _ (says.answer, says.output) done (omega arith) in
-    record { answer = c.none-then-frames-ge-MOST.ensures ∙ t.0; leaves = t.1 }
+    let live = sym c.if-not-is_live.ensures in
+    let t = full_in a.self.now (eight (goal.at.returns-then-frames-ge-MOST c).Start) a.who a.frames.now live _ c.in-Ok.ensures.answer
+    c.if-frames-ge-MOST.true in
+    record { answer = t.0; frames = t.1.0; leaves = t.1.1 }
 
 pub returns : goal.returns
 returns c =
     let a = c.args in
-    let eight : length a.nodes.now ≡ 8 = search rules in
-    let eight_live : length a.self.live ≡ 8 = search rules in
-    let live = is_live_in_law a.self.live a.nodes.now a.who (omega arith) ∙ not-false _ c.if-not-self-who.false-raw in
-    let inside : a.who < 8 = omega (arith, c.places.ensures) in
-    let done = eq-eqb _ 0 (sym c.number.ensures ∙ c.if-number-ne0.false) in
-    let says = c.give-answer.ensures in
-    let t = given_in a.self.live a.nodes.now eight a.who a.frames live inside [] c.give-answer.result.node _ refl _ (says.answer, says.output) done (omega arith) _ c.with.ensures in
-    record { answer = t.0; leaves = t.1 }
+    let live = sym c.if-not-is_live.ensures in
+    let t = given_in a.self.now (eight (goal.at.returns c).Start) a.who a.frames.now live _ c.in-Ok.ensures.answer
+    c.if-frames-ge-MOST.false _ c.in-Ok.ensures.leaves c.push.ensures in
+    record { answer = t.0; frames = t.1.0; leaves = t.1.1 }

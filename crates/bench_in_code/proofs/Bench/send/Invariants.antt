@@ -1,11 +1,7 @@
--- `Bench::send` meets its contract: when the loop has come down to i, each module from i on has had its turn.
-use Rattle.bench_in_code.specs.InBytes.{stations_in}
-use Rattle.bench_in_code.proofs.LoopsOverStations.{Turned, heard_at}
+-- `Bench::send` meets its contract: when the loop comes to i, each module before i has had its turn.
+use Rattle.bench_in_code.specs.InBytes.{hearing_of}
+use Rattle.bench_in_code.proofs.LoopsOverStations.{TurnedTo, heard_at}
 use Rattle.bench_in_code.proofs.Bench.send.Given as goal
 
 abbrev pub invariant-loop-i : goal.invariant-loop-i
-invariant-loop-i l =
-    Turned (heard_at l.frame l.to) (stations_in l.live l.initial.nodes) l.i (stations_in l.live l.nodes) l.said l.outs
-
-abbrev pub decreases-loop-i : goal.decreases-loop-i
-decreases-loop-i l = l.i
+invariant-loop-i l = TurnedTo hearing_of (heard_at l.frame l.to) l.initial.self l.i l.self.modules l.said l.outs

@@ -1,26 +1,24 @@
--- `Bench::tick` meets its contract: when the loop has come down to i, each module from i on has had its turn.
-use borrow.Author.Rules.{rules}
-use native.Mathlib.Omega.{arith}
-use mathlib.Core.Path.{◌≡◌, refl, ◌∙◌}
-use mathlib.Core.List.{[]}
-use lib.ListN.{length}
-use Rattle.bench_in_code.specs.InBytes.{bench_in}
-use Rattle.bench_in_code.proofs.CallsInCode.{eight_places}
-use Rattle.bench_in_code.proofs.LoopsOverStations.{all_ticked, none_turned, one_place_turned}
+-- `Bench::tick` meets its contract: when the loop comes to i, each module before i has had its turn.
+use Rattle.std.proofs.Common.{rules, ◌≡◌, length, refl}
+use Rattle.bench_in_code.specs.InCode.{tick_turn}
+use Rattle.bench_in_code.specs.InBytes.{ticking_of}
+use Rattle.bench_in_code.proofs.LoopsOverStations.{at_first, one_place_turned, all_ticked}
 use Rattle.bench_in_code.proofs.Bench.tick.Goals as goal
 
 pub loop-i-init : goal.loop-i-init
 loop-i-init c =
-    let eight : length c.args.nodes.now ≡ 8 = search rules in
+    let eight : length c.args.self.now.modules ≡ 8 = search rules in
     let eight_outs : length c.args.outs.now ≡ 8 = search rules in
-    none_turned _ _ (eight_places _ _ eight) _ _ refl eight_outs _ (c.places_with-i.ensures ∙ eight)
+    at_first ticking_of (λ k m. tick_turn m) c.args.self.now eight _ _ refl eight_outs
 
 pub loop-i-preserved : goal.loop-i-preserved
 loop-i-preserved c =
+    let eight : length c.loop-i.self.modules ≡ 8 = search rules in
     let u = c.tick.ensures in
-    one_place_turned _ _ _ c.loop-i.nodes c.loop-i.invariant _ (omega arith) [] _ _ _ (u.answer, (u.output, u.leaves))
+    one_place_turned ticking_of (λ k m. tick_turn m) c.args.self.now c.loop-i.self.modules c.loop-i.invariant c.loop-i-test.true eight _ _ _ _
+    (u.answer, (u.output, u.leaves))
 
 pub returns : goal.returns
 returns c =
-    let t = all_ticked (bench_in c.args.self.live c.args.nodes.now) _ (omega arith) c.loop-i.invariant in
+    let t = all_ticked c.args.self.now c.loop-i-test.false c.loop-i.self.modules c.loop-i.invariant in
     record { answer = t.0; outputs = t.1.0; leaves = t.1.1 }

@@ -1,11 +1,8 @@
--- `Bench::tick` meets its contract: when the loop has come down to i, each module from i on has had its turn.
+-- `Bench::tick` meets its contract: when the loop comes to i, each module before i has had its turn.
 use Rattle.bench_in_code.specs.InCode.{tick_turn}
-use Rattle.bench_in_code.specs.InBytes.{stations_in}
-use Rattle.bench_in_code.proofs.LoopsOverStations.{Turned}
+use Rattle.bench_in_code.specs.InBytes.{ticking_of}
+use Rattle.bench_in_code.proofs.LoopsOverStations.{TurnedTo}
 use Rattle.bench_in_code.proofs.Bench.tick.Given as goal
 
 abbrev pub invariant-loop-i : goal.invariant-loop-i
-invariant-loop-i l = Turned (λ k m. tick_turn m) (stations_in l.live l.initial.nodes) l.i (stations_in l.live l.nodes) l.said l.outs
-
-abbrev pub decreases-loop-i : goal.decreases-loop-i
-decreases-loop-i l = l.i
+invariant-loop-i l = TurnedTo ticking_of (λ k m. tick_turn m) l.initial.self l.i l.self.modules l.said l.outs
