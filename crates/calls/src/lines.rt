@@ -1,213 +1,65 @@
 // A line is answered by what its first word names. What is no call stands here: the fresh node, many ticks, the tally.
-use crate::answers::{Answer, State};
-use crate::{answers, calls};
+use crate::calls;
+use module::Module;
 use node::Node;
-use std::io::Stdout;
-use text::input::{Kind, Step};
-use text::{Buffer, numbers, output, part, words};
+use text::input::Line;
+use text::output::Printer;
+use text::part;
+use text::words::Words;
 
 // The most ticks of one line.
 const TICKS: u64 = 65536;
 
-#[derive(Clone, Copy)]
-enum Command {
-    Fresh,
-    SetUp,
-    Hear,
-    Tick,
-    Many,
-    Request,
-    Next,
-    Counts,
-    Unknown,
-}
-
-fn command_of(word: &[u8]) -> Command {
-    if words::is(word, b"tick") {
-        return Command::Tick;
-    }
-    if words::is(word, b"hear") {
-        return Command::Hear;
-    }
-    if words::is(word, b"next") {
-        return Command::Next;
-    }
-    if words::is(word, b"request") {
-        return Command::Request;
-    }
-    if words::is(word, b"ticks") {
-        return Command::Many;
-    }
-    if words::is(word, b"setup") {
-        return Command::SetUp;
-    }
-    if words::is(word, b"tally") {
-        return Command::Counts;
-    }
-    if words::is(word, b"node") {
-        return Command::Fresh;
-    }
-    Command::Unknown
-}
-
-// Answers one step of the input.
-pub(crate) fn answer(
-    stdout: Stdout,
-    state: State,
-    step: Step,
-    line: &[u8],
-    out: &mut Buffer,
-    to: usize,
-) -> Answer {
-    let kind = step.kind;
-    match kind {
-        Kind::Line => answers::ended(stdout, read(stdout, state, line, out, to), out),
-        Kind::Long => answers::ended(stdout, answers::unread(stdout, state, out, to), out),
-        Kind::More => Answer { state, to },
-        Kind::End => Answer { state, to },
-    }
-}
-
-fn read(stdout: Stdout, state: State, line: &[u8], out: &mut Buffer, to: usize) -> Answer {
-    let w = words::word_at(line, 0);
-    let command = command_of(part(line, w.start, w.end));
-    named(stdout, command, state, line, w.next, out, to)
-}
-
-fn named(
-    stdout: Stdout,
-    command: Command,
-    state: State,
-    line: &[u8],
-    at: usize,
-    out: &mut Buffer,
-    to: usize,
-) -> Answer {
-    match command {
-        Command::Fresh => fresh(stdout, state, line, at, out, to),
-        Command::SetUp => calls::setup(stdout, state, line, at, out, to),
-        Command::Hear => calls::hear(stdout, state, line, at, out, to),
-        Command::Tick => calls::tick(stdout, state, line, at, out, to),
-        Command::Many => ticks(stdout, state, line, at, out, to),
-        Command::Request => calls::request(stdout, state, line, at, out, to),
-        Command::Next => calls::next(stdout, state, line, at, out, to),
-        Command::Counts => tally(stdout, state, line, at, out, to),
-        Command::Unknown => answers::unread(stdout, state, out, to),
+// Answers a line. None, with nothing done, where it can't be read.
+pub(crate) fn answer(module: &mut Module, line: Line<'_>, out: &mut Printer) -> Option<()> {
+    let mut words = Words::of(line.ok()?);
+    match words.word() {
+        b"tick" => calls::tick(module, &mut words, out),
+        b"hear" => calls::hear(module, &mut words, out),
+        b"next" => calls::next(module, &mut words, out),
+        b"request" => calls::request(module, &mut words, out),
+        b"ticks" => ticks(module, &mut words, out),
+        b"setup" => calls::setup(module, &mut words, out),
+        b"tally" => tally(module, &mut words, out),
+        b"node" => fresh(module, &mut words, out),
+        _ => None,
     }
 }
 
 // node
-fn fresh(
-    stdout: Stdout,
-    state: State,
-    line: &[u8],
-    at: usize,
-    out: &mut Buffer,
-    to: usize,
-) -> Answer {
-    if words::done(line, at) {
-        return Answer {
-            state: State::new(),
-            to: output::put(stdout, out, to, b"node"),
-        };
-    }
-    answers::unread(stdout, state, out, to)
+fn fresh(module: &mut Module, words: &mut Words<'_>, out: &mut Printer) -> Option<()> {
+    words.end()?;
+    *module = Module::fresh();
+    out.put(b"node");
+    Some(())
 }
 
-// ticks N
-fn ticks(
-    stdout: Stdout,
-    state: State,
-    line: &[u8],
-    at: usize,
-    out: &mut Buffer,
-    to: usize,
-) -> Answer {
-    let n = numbers::number_at(line, at, TICKS);
-    if n.ok & words::done(line, n.next) {
-        let last = many(stdout, state, n.value, out, to);
-        let then = last.state;
-        return Answer {
-            state: then,
-            to: output::put_decimal(stdout, out, last.to, then.node.counter as u64),
-        };
+// ticks N: the counter, behind `K RECORDS ` of each tick that wrote some
+fn ticks(module: &mut Module, words: &mut Words<'_>, out: &mut Printer) -> Option<()> {
+    let n = words.number(TICKS)?;
+    words.end()?;
+    for k in 1..=n {
+        let mut records = [0; Node::TICK_ROOM];
+        if let Ok(ticked) = module.tick(&mut records)
+            && ticked.written > 0
+        {
+            out.put_parted(k, b' ');
+            out.put_hex(part(&records, 0, ticked.written));
+            out.put_byte(b' ');
+        }
     }
-    answers::unread(stdout, state, out, to)
+    out.put_decimal(u64::from(module.node.counter));
+    Some(())
 }
 
-fn many(stdout: Stdout, state: State, n: u64, out: &mut Buffer, to: usize) -> Answer {
-    let mut answer = Answer { state, to };
-    let mut k: u64 = 0;
-    while k < n {
-        k += 1;
-        answer = one(stdout, answer, k, out);
+// tally: the counts, with a space between them
+fn tally(module: &mut Module, words: &mut Words<'_>, out: &mut Printer) -> Option<()> {
+    words.end()?;
+    for (i, count) in module.tally.counts.iter().enumerate() {
+        if i > 0 {
+            out.put_byte(b' ');
+        }
+        out.put_decimal(u64::from(*count));
     }
-    answer
-}
-
-// The kth tick, with `K BYTES ` where it wrote something.
-fn one(stdout: Stdout, before: Answer, k: u64, out: &mut Buffer) -> Answer {
-    let mut output = [0u8; Node::TICK_ROOM];
-    let state = before.state;
-    let node = state.node;
-    let answer = node.tick(&mut output);
-    let reply = answer.reply;
-    Answer {
-        state: answers::after(answer.node, state.tally, reply),
-        to: put_tick(stdout, out, before.to, k, &output, answer.written),
-    }
-}
-
-fn put_tick(
-    stdout: Stdout,
-    out: &mut Buffer,
-    to: usize,
-    k: u64,
-    bytes: &[u8],
-    written: usize,
-) -> usize {
-    if written == 0 {
-        return to;
-    }
-    let start = output::put_parted(stdout, out, to, k, b' ');
-    let end = output::put_hex(stdout, out, start, part(bytes, 0, written));
-    output::put_byte(stdout, out, end, b' ')
-}
-
-// tally
-fn tally(
-    stdout: Stdout,
-    state: State,
-    line: &[u8],
-    at: usize,
-    out: &mut Buffer,
-    to: usize,
-) -> Answer {
-    if words::done(line, at) {
-        let counts = state.tally.counts;
-        return Answer {
-            state,
-            to: put_counts(stdout, out, to, &counts),
-        };
-    }
-    answers::unread(stdout, state, out, to)
-}
-
-fn put_counts(stdout: Stdout, out: &mut Buffer, to: usize, counts: &[u32]) -> usize {
-    let mut past = to;
-    let mut i = 0;
-    while i < counts.len() {
-        past = put_count(stdout, out, past, 0 < i, counts[i]);
-        i += 1;
-    }
-    past
-}
-
-// A count, with a space before it where another stands there.
-fn put_count(stdout: Stdout, out: &mut Buffer, to: usize, more: bool, count: u32) -> usize {
-    if more {
-        let past = output::put_byte(stdout, out, to, b' ');
-        return output::put_decimal(stdout, out, past, count as u64);
-    }
-    output::put_decimal(stdout, out, to, count as u64)
+    Some(())
 }

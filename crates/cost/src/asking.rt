@@ -4,6 +4,7 @@ ghost use Rattle.std.specs.Prelude.{◌≤◌};
 use node::Node;
 use wire::settings::Settings;
 
+// Kept as one struct for every call: a round makes it whether it calls the node or not, so that the rounds alone can be measured.
 #[derive(Clone, Copy)]
 pub struct Asked {
     // A stream, or a bus identifier.
@@ -16,8 +17,6 @@ pub struct Asked {
     pub room: usize,
     pub settings: Settings,
 }
-
-const ROOM: usize = Node::TICK_ROOM;
 
 // The longest payload that is asked for, one byte more than a message has.
 pub(crate) const LARGEST: usize = 9;
@@ -33,7 +32,7 @@ pub(crate) const BELOW_HIGHEST: u32 = 57;
 
 const HIGHEST: u32 = 88;
 
-// The settings of a stream of this role and class.
+// The settings of a stream of this role and class. Both are numbers, as the settings have them, and so is a code below.
 pub(crate) fn settings_of(role: u8, class: u32) -> Settings {
     match class {
         0 => Settings::of_plain(role),
@@ -46,12 +45,6 @@ pub(crate) fn payload_of(first: u8) -> [u8; LARGEST] {
     [first, 1, 2, 3, 4, 5, 6, 7, 8]
 }
 
-fn flag(b: bool) -> u32
-    ensures { result ≤ 1 }
-{
-    if b { 1 } else { 0 }
-}
-
 // A code that the class carries; any code where `any` is true.
 fn code_of(class: u32, any: bool, w: u32) -> u32
     ensures { result ≤ 3 }
@@ -62,7 +55,7 @@ fn code_of(class: u32, any: bool, w: u32) -> u32
     if class == 0 {
         return 3;
     }
-    if (class == 1) | (w < 4) {
+    if class == 1 || w < 4 {
         return 0;
     }
     if w < 7 { 1 } else { 2 }
@@ -72,20 +65,11 @@ fn code_of(class: u32, any: bool, w: u32) -> u32
 fn length_of(k: u32, code: u32, shorter: bool) -> u8
     ensures { result ≤ 8 }
 {
-    if (code == 1) | (code == 2) {
+    if code == 1 || code == 2 {
         return 0;
     }
-    let len = k % 9;
-    if shorter {
-        if 0 < len {
-            return (len - 1) as u8;
-        }
-    }
-    len as u8
-}
-
-fn wide(len: u8) -> usize {
-    len as usize
+    let len = (k % 9) as u8;
+    if shorter { len.saturating_sub(1) } else { len }
 }
 
 // A frame: one in sixteen each with short output, a DLC that is one more than its bytes (no frame, but
@@ -99,14 +83,18 @@ pub(crate) fn frame(random: u32) -> Asked {
     let other = h / 4096 % 8;
     let code = code_of(k % 3, kind == 3, w);
     let len = length_of(k, code, other == 6);
-    let dlc = len + (flag(kind == 1) as u8);
+    let dlc = len + u8::from(kind == 1);
     Asked {
-        number: (stream_of(k) + flag(kind == 2)) * 4 + code,
+        number: (stream_of(k) + u32::from(kind == 2)) * 4 + code,
         dlc,
-        len: wide(len),
+        len: usize::from(len),
         first: (other / 7) as u8,
-        room: if kind == 0 { Node::HEAR_ROOM - 1 } else { ROOM },
-        settings: settings_of(0, 0),
+        room: if kind == 0 {
+            Node::HEAR_ROOM - 1
+        } else {
+            Node::TICK_ROOM
+        },
+        ..nothing()
     }
 }
 
@@ -119,8 +107,7 @@ fn data(stream: u32, random: u32) -> Asked
         dlc: 8,
         len: 8,
         first: (random / 65536 % 2) as u8,
-        room: ROOM,
-        settings: settings_of(0, 0),
+        ..nothing()
     }
 }
 
@@ -141,12 +128,11 @@ pub(crate) fn message(random: u32) -> Asked {
     let kind = h / 32 % 8;
     let len = length_of(k, 0, false);
     Asked {
-        number: stream_of(k) + flag(kind == 0),
+        number: stream_of(k) + u32::from(kind == 0),
         dlc: len,
-        len: if kind == 1 { LARGEST } else { wide(len) },
+        len: if kind == 1 { LARGEST } else { usize::from(len) },
         first: (h % 256) as u8,
-        room: ROOM,
-        settings: settings_of(0, 0),
+        ..nothing()
     }
 }
 
@@ -158,11 +144,8 @@ pub(crate) fn stream(i: u64, random: u32) -> Asked {
     let role = if kind == 0 { 2 } else { role_of(k) };
     Asked {
         number: stream_of(k),
-        dlc: 0,
-        len: 0,
-        first: 0,
-        room: ROOM,
         settings: settings_of(role, k % 3),
+        ..nothing()
     }
 }
 
@@ -182,7 +165,7 @@ pub(crate) fn nothing() -> Asked {
         dlc: 0,
         len: 0,
         first: 0,
-        room: ROOM,
+        room: Node::TICK_ROOM,
         settings: settings_of(0, 0),
     }
 }

@@ -1,22 +1,14 @@
 // The generator and the checksum.
-ghost use Rattle.std.specs.Prelude.{◌<◌};
-
 use node::Node;
-
-fn wide(x: u32) -> u64
-    ensures { result < 4294967296 }
-{
-    x as u64
-}
 
 // The generator's next state.
 pub(crate) fn next(random: u32) -> u32 {
-    ((wide(random) * 1664525 + 1013904223) % 4294967296) as u32
+    random.wrapping_mul(1664525).wrapping_add(1013904223)
 }
 
 // The checksum with one number more.
 pub(crate) fn mixed(sum: u32, x: u32) -> u32 {
-    ((wide(sum) * 31 + wide(x)) % 4294967296) as u32
+    sum.wrapping_mul(31).wrapping_add(x)
 }
 
 // The checksum with a reply, an identifier and a count of bytes.
@@ -35,24 +27,14 @@ pub(crate) fn mixed_told(sum: u32, told: u32, dropped: u32, delivered: u32) -> u
 
 // The checksum with all the bytes.
 pub(crate) fn mixed_bytes(sum: u32, bytes: &[u8; Node::TICK_ROOM]) -> u32 {
-    let mut all = sum;
-    let mut i = 0;
-    while i < Node::TICK_ROOM {
-        all = mixed(all, of_byte(bytes[i]));
-        i += 1;
-    }
-    all
+    bytes.iter().fold(sum, |sum, b| mixed(sum, u32::from(*b)))
 }
 
 // The checksum with a byte of the first record, and one of all the bytes.
 pub(crate) fn mixed_some(sum: u32, bytes: &[u8; Node::TICK_ROOM], random: u32) -> u32 {
     let h = (random / 65536) as usize;
-    let first = mixed(sum, of_byte(bytes[h % Node::HEAR_ROOM]));
-    mixed(first, of_byte(bytes[h % Node::TICK_ROOM]))
-}
-
-fn of_byte(b: u8) -> u32 {
-    b as u32
+    let first = mixed(sum, u32::from(bytes[h % Node::HEAR_ROOM]));
+    mixed(first, u32::from(bytes[h % Node::TICK_ROOM]))
 }
 
 // A count of bytes, of which there are never as many as here.

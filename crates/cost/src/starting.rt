@@ -51,11 +51,8 @@ const STREAMS: u32 = Node::SLOTS as u32;
 pub(crate) fn set_up(streams: Streams) -> Node {
     let first = first_of(streams);
     let mut node = Node::fresh();
-    let mut k = 0;
-    while k < STREAMS {
-        let answer = node.set_up(Stream(asking::stream_of(first + k)), settings(streams, k));
-        node = answer.node;
-        k += 1;
+    for k in 0..STREAMS {
+        let _ = node.set_up(Stream(asking::stream_of(first + k)), settings(streams, k));
     }
     node
 }
@@ -71,76 +68,52 @@ pub enum Done {
     Requested,
 }
 
-// The node with this done to so many of every four streams; where `apart` is true, a tick follows each.
-pub(crate) fn held(start: Node, done: Done, of_four: u32, apart: bool) -> Node {
-    let mut node = start;
-    let mut k = 0;
-    while k < STREAMS {
+// Does this to so many of every four streams; where `apart` is true, a tick follows each.
+pub(crate) fn hold(node: &mut Node, done: Done, of_four: u32, apart: bool) {
+    for k in 0..STREAMS {
         if k % 4 < of_four {
-            node = after(node, done, k);
+            match done {
+                Done::Heard => hear_data(node, k),
+                Done::Confirmed => {
+                    hear_data(node, k);
+                    hear_confirmation(node, k);
+                }
+                Done::Requested => request(node, k),
+            }
         }
         if apart {
-            node = ticked(node);
+            tick(node, 1);
         }
-        k += 1;
-    }
-    node
-}
-
-fn after(node: Node, done: Done, k: u32) -> Node {
-    match done {
-        Done::Heard => heard(node, k),
-        Done::Confirmed => confirmed(heard(node, k), k),
-        Done::Requested => requested(node, k),
     }
 }
 
-// The node once it heard data of stream k.
-fn heard(node: Node, k: u32) -> Node {
+// The node hears data of stream k.
+fn hear_data(node: &mut Node, k: u32) {
     let payload = asking::payload_of(0);
-    let mut out = [0u8; Node::HEAR_ROOM];
-    let answer = node.hear(
-        BusId(asking::stream_of(k) * 4),
+    let id = BusId(asking::stream_of(k) * 4);
+    let _ = node.hear(
+        id,
         8,
-        &payload[0..Message::MAX_LEN],
-        &mut out,
+        &payload[..Message::MAX_LEN],
+        &mut [0; Node::HEAR_ROOM],
     );
-    answer.node
 }
 
-// The node once it heard a confirmation of stream k.
-fn confirmed(node: Node, k: u32) -> Node {
-    let payload = asking::payload_of(0);
-    let mut out = [0u8; Node::HEAR_ROOM];
-    let answer = node.hear(
-        BusId(asking::stream_of(k) * 4 + 1),
-        0,
-        &payload[0..0],
-        &mut out,
-    );
-    answer.node
+// The node hears a confirmation of stream k.
+fn hear_confirmation(node: &mut Node, k: u32) {
+    let id = BusId(asking::stream_of(k) * 4 + 1);
+    let _ = node.hear(id, 0, &[], &mut [0; Node::HEAR_ROOM]);
 }
 
-fn ticked(node: Node) -> Node {
-    let mut out = [0u8; Node::TICK_ROOM];
-    let answer = node.tick(&mut out);
-    answer.node
-}
-
-// The node so many ticks later.
-pub(crate) fn later(start: Node, ticks: u32) -> Node {
-    let mut node = start;
-    let mut i = 0;
-    while i < ticks {
-        node = ticked(node);
-        i += 1;
+// So many ticks.
+pub(crate) fn tick(node: &mut Node, ticks: u32) {
+    for _ in 0..ticks {
+        let _ = node.tick(&mut [0; Node::TICK_ROOM]);
     }
-    node
 }
 
-// The node once it was asked for a message of stream k.
-pub(crate) fn requested(node: Node, k: u32) -> Node {
+// The node is asked for a message of stream k.
+pub(crate) fn request(node: &mut Node, k: u32) {
     let payload = asking::payload_of(0);
-    let answer = node.request(Stream(asking::stream_of(k)), &payload[0..Message::MAX_LEN]);
-    answer.node
+    let _ = node.request(Stream(asking::stream_of(k)), &payload[..Message::MAX_LEN]);
 }

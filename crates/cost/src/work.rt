@@ -7,8 +7,9 @@ use crate::asking::Asked;
 use crate::starting::{Done, Streams};
 use crate::{asking, checksum, starting};
 use node::Node;
-use text::{least, words};
+use node::told::Told;
 use wire::ids::{BusId, Stream};
+use wire::reply::Reply;
 
 #[derive(Clone, Copy)]
 pub enum Work {
@@ -36,68 +37,35 @@ enum Call {
     SetUp,
 }
 
-#[derive(Clone, Copy)]
-pub enum Named {
-    Is(Work),
-    Unknown,
+impl Work {
+    pub(crate) fn named(word: &[u8]) -> Option<Work> {
+        let work = match word {
+            b"hear" => Work::Hear,
+            b"hear-last" => Work::HearLast,
+            b"hear-absent" => Work::HearAbsent,
+            b"tick-idle" => Work::TickIdle,
+            b"tick-one" => Work::TickOne,
+            b"tick-many" => Work::TickMany,
+            b"tick-dropped" => Work::TickDropped,
+            b"request" => Work::Request,
+            b"next-one" => Work::NextOne,
+            b"next-many" => Work::NextMany,
+            b"next-none" => Work::NextNone,
+            b"set-up" => Work::SetUp,
+            b"mixed" => Work::Mixed,
+            _ => return None,
+        };
+        Some(work)
+    }
 }
 
-pub(crate) fn work_named(word: &[u8]) -> Named {
-    if words::is(word, b"hear") {
-        return Named::Is(Work::Hear);
-    }
-    if words::is(word, b"hear-last") {
-        return Named::Is(Work::HearLast);
-    }
-    if words::is(word, b"hear-absent") {
-        return Named::Is(Work::HearAbsent);
-    }
-    if words::is(word, b"tick-idle") {
-        return Named::Is(Work::TickIdle);
-    }
-    if words::is(word, b"tick-one") {
-        return Named::Is(Work::TickOne);
-    }
-    if words::is(word, b"tick-many") {
-        return Named::Is(Work::TickMany);
-    }
-    if words::is(word, b"tick-dropped") {
-        return Named::Is(Work::TickDropped);
-    }
-    if words::is(word, b"request") {
-        return Named::Is(Work::Request);
-    }
-    if words::is(word, b"next-one") {
-        return Named::Is(Work::NextOne);
-    }
-    if words::is(word, b"next-many") {
-        return Named::Is(Work::NextMany);
-    }
-    if words::is(word, b"next-none") {
-        return Named::Is(Work::NextNone);
-    }
-    if words::is(word, b"set-up") {
-        return Named::Is(Work::SetUp);
-    }
-    if words::is(word, b"mixed") {
-        return Named::Is(Work::Mixed);
-    }
-    Named::Unknown
-}
-
+// Kept as matches, here and below: which step a workload runs shows in one table for each thing that is asked of it.
 fn call_of(work: Work, random: u32) -> Call {
     match work {
-        Work::Hear => Call::Hear,
-        Work::HearLast => Call::Hear,
-        Work::HearAbsent => Call::Hear,
-        Work::TickIdle => Call::Tick,
-        Work::TickOne => Call::Tick,
-        Work::TickMany => Call::Tick,
-        Work::TickDropped => Call::Tick,
+        Work::Hear | Work::HearLast | Work::HearAbsent => Call::Hear,
+        Work::TickIdle | Work::TickOne | Work::TickMany | Work::TickDropped => Call::Tick,
         Work::Request => Call::Request,
-        Work::NextOne => Call::NextFrame,
-        Work::NextMany => Call::NextFrame,
-        Work::NextNone => Call::NextFrame,
+        Work::NextOne | Work::NextMany | Work::NextNone => Call::NextFrame,
         Work::SetUp => Call::SetUp,
         Work::Mixed => any_call(random / 4096 % 16),
     }
@@ -137,76 +105,48 @@ fn period_of(work: Work) -> u64
 
 fn start_of(work: Work) -> Node {
     match work {
-        Work::Hear => starting::set_up(Streams::Mixed),
+        Work::Hear | Work::HearAbsent | Work::Mixed => starting::set_up(Streams::Mixed),
         Work::HearLast => starting::set_up(Streams::HighestLast),
-        Work::HearAbsent => starting::set_up(Streams::Mixed),
-        Work::TickIdle => starting::held(
-            starting::set_up(Streams::Received),
-            Done::Confirmed,
-            2,
-            false,
-        ),
+        Work::TickIdle => with(Streams::Received, Done::Confirmed, 2, false, 0),
         // Every tick from here on has one message due, and after 32 ticks none is left.
-        Work::TickOne => starting::later(
-            starting::held(
-                starting::set_up(Streams::Received),
-                Done::Confirmed,
-                4,
-                true,
-            ),
-            68,
-        ),
+        Work::TickOne => with(Streams::Received, Done::Confirmed, 4, true, 68),
         // The next tick has 32 messages due.
-        Work::TickMany => starting::later(
-            starting::held(
-                starting::set_up(Streams::Received),
-                Done::Confirmed,
-                4,
-                false,
-            ),
-            100,
-        ),
+        Work::TickMany => with(Streams::Received, Done::Confirmed, 4, false, 100),
         // The next tick has 32 messages late.
-        Work::TickDropped => starting::later(
-            starting::held(
-                starting::set_up(Streams::TwoReceived),
-                Done::Heard,
-                4,
-                false,
-            ),
-            80,
-        ),
-        Work::Request => starting::set_up(Streams::Sent),
-        Work::NextOne => starting::requested(starting::set_up(Streams::Sent), 19),
+        Work::TickDropped => with(Streams::TwoReceived, Done::Heard, 4, false, 80),
+        Work::Request | Work::NextNone => starting::set_up(Streams::Sent),
+        Work::NextOne => {
+            let mut node = starting::set_up(Streams::Sent);
+            starting::request(&mut node, 19);
+            node
+        }
         // Data and a confirmation of 32 streams.
-        Work::NextMany => starting::held(
-            starting::set_up(Streams::TwoSent),
-            Done::Requested,
-            4,
-            false,
-        ),
-        Work::NextNone => starting::set_up(Streams::Sent),
+        Work::NextMany => with(Streams::TwoSent, Done::Requested, 4, false, 0),
         Work::SetUp => Node::fresh(),
-        Work::Mixed => starting::set_up(Streams::Mixed),
     }
 }
 
+// A node with all its streams, with this done to so many of every four, and so many ticks later.
+fn with(streams: Streams, done: Done, of_four: u32, apart: bool, ticks: u32) -> Node {
+    let mut node = starting::set_up(streams);
+    starting::hold(&mut node, done, of_four, apart);
+    starting::tick(&mut node, ticks);
+    node
+}
+
 fn frame_of(work: Work, random: u32) -> Asked {
-    if let Work::HearLast = work {
-        return asking::data_of_highest(random);
+    match work {
+        Work::HearLast => asking::data_of_highest(random),
+        Work::HearAbsent => asking::data_of_absent(random),
+        _ => asking::frame(random),
     }
-    if let Work::HearAbsent = work {
-        return asking::data_of_absent(random);
-    }
-    asking::frame(random)
 }
 
 fn asked_of(work: Work, call: Call, i: u64, random: u32) -> Asked {
     match call {
         Call::Hear => frame_of(work, random),
-        Call::Tick => asking::nothing(),
+        Call::Tick | Call::NextFrame => asking::nothing(),
         Call::Request => asking::message(random),
-        Call::NextFrame => asking::nothing(),
         Call::SetUp => asking::stream(i, random),
     }
 }
@@ -218,87 +158,108 @@ pub(crate) fn run(work: Work, rounds: u64, calls: u64) -> u32 {
     let mut node = start;
     let mut random: u32 = 1;
     let mut sum: u32 = 0;
-    let mut i: u64 = 0;
-    while i < rounds {
+    for i in 0..rounds {
         if i % period == 0 {
             node = start;
         }
         random = checksum::next(random);
         let call = call_of(work, random);
         let asked = asked_of(work, call, i, random);
-        let mut out = [0u8; Node::TICK_ROOM];
-        let payload = asking::payload_of(asked.first);
-        let len = least(asked.len, asking::LARGEST);
-        let room = least(asked.room, Node::TICK_ROOM);
-        let mut reply: u32 = 0;
-        let mut id: u32 = 0;
-        let mut count: usize = 0;
-        let mut told: u32 = 0;
-        let mut dropped: u32 = 0;
-        let mut delivered: u32 = 0;
-        if i < calls {
-            match call {
-                Call::Hear => {
-                    let answer = node.hear(
-                        BusId(asked.number),
-                        asked.dlc,
-                        &payload[0..len],
-                        &mut out[0..room],
-                    );
-                    node = answer.node;
-                    let got = answer.reply;
-                    reply = got.number();
-                    count = answer.written;
-                    let did = answer.told;
-                    told = did.number();
-                }
-                Call::Tick => {
-                    let answer = node.tick(&mut out[0..room]);
-                    node = answer.node;
-                    let got = answer.reply;
-                    reply = got.number();
-                    count = answer.written;
-                    dropped = answer.dropped;
-                    delivered = answer.delivered;
-                }
-                Call::Request => {
-                    let answer = node.request(Stream(asked.number), &payload[0..len]);
-                    node = answer.node;
-                    let got = answer.reply;
-                    reply = got.number();
-                }
-                Call::NextFrame => {
-                    let answer = node.next_frame(&mut out[0..room]);
-                    node = answer.node;
-                    let got = answer.reply;
-                    reply = got.number();
-                    id = answer.id.0;
-                    count = answer.len;
-                }
-                Call::SetUp => {
-                    let answer = node.set_up(Stream(asked.number), asked.settings);
-                    node = answer.node;
-                    let got = answer.reply;
-                    reply = got.number();
-                }
-            }
-        }
-        sum = checksum::mixed_answer(sum, reply, id, checksum::small(count));
-        sum = checksum::mixed_told(sum, told, dropped, delivered);
+        let mut out = [0; Node::TICK_ROOM];
+        let answer = if i < calls {
+            ask(&mut node, call, asked, &mut out)
+        } else {
+            Answer::of(Reply::Done)
+        };
+        sum = checksum::mixed_answer(
+            sum,
+            answer.reply.number(),
+            answer.id.0,
+            checksum::small(answer.count),
+        );
+        sum = checksum::mixed_told(sum, answer.told.number(), answer.dropped, answer.delivered);
         sum = checksum::mixed_some(sum, &out, random);
-        i += 1;
     }
     ended(node, sum)
 }
 
+// What a call answers, with zeros where it says less. Kept with zeros: they go into the checksum, as C's do.
+#[derive(Clone, Copy)]
+struct Answer {
+    reply: Reply,
+    id: BusId,
+    // How many bytes were written, or how long the frame is.
+    count: usize,
+    told: Told,
+    dropped: u32,
+    delivered: u32,
+}
+
+impl Answer {
+    fn of(reply: Reply) -> Answer {
+        Answer {
+            reply,
+            id: BusId(0),
+            count: 0,
+            told: Told::Nothing,
+            dropped: 0,
+            delivered: 0,
+        }
+    }
+}
+
+fn ask(node: &mut Node, call: Call, asked: Asked, out: &mut [u8; Node::TICK_ROOM]) -> Answer {
+    let payload = asking::payload_of(asked.first);
+    let payload = &payload[..asked.len.min(asking::LARGEST)];
+    let out = &mut out[..asked.room.min(Node::TICK_ROOM)];
+    let mut answer = Answer::of(Reply::Done);
+    match call {
+        Call::Hear => match node.hear(BusId(asked.number), asked.dlc, payload, out) {
+            Ok(heard) => {
+                answer.count = heard.written;
+                answer.told = heard.told;
+            }
+            Err(refusal) => answer.reply = refusal,
+        },
+        Call::Tick => match node.tick(out) {
+            Ok(ticked) => {
+                answer.count = ticked.written;
+                answer.dropped = ticked.dropped;
+                answer.delivered = ticked.delivered;
+            }
+            Err(refusal) => answer.reply = refusal,
+        },
+        Call::Request => {
+            if let Err(refusal) = node.request(Stream(asked.number), payload) {
+                answer.reply = refusal;
+            }
+        }
+        Call::NextFrame => match node.next_frame(out) {
+            Ok(given) => {
+                answer.id = given.id;
+                answer.count = given.len;
+            }
+            Err(refusal) => answer.reply = refusal,
+        },
+        Call::SetUp => {
+            if let Err(refusal) = node.set_up(Stream(asked.number), asked.settings) {
+                answer.reply = refusal;
+            }
+        }
+    }
+    answer
+}
+
 // The checksum with what the node does at a next frame and a tick.
 fn ended(node: Node, sum: u32) -> u32 {
-    let mut out = [0u8; Node::TICK_ROOM];
-    let given = node.next_frame(&mut out);
-    let mid = given.node;
-    let delivered = mid.tick(&mut out);
-    let last = delivered.node;
-    let with_id = checksum::mixed(sum, given.id.0);
-    let with_counter = checksum::mixed(with_id, last.counter as u32);
+    let mut node = node;
+    let mut out = [0; Node::TICK_ROOM];
+    let id = match node.next_frame(&mut out) {
+        Ok(given) => given.id.0,
+        Err(_) => 0,
+    };
+    let _ = node.tick(&mut out);
+    let with_id = checksum::mixed(sum, id);
+    let with_counter = checksum::mixed(with_id, u32::from(node.counter));
     checksum::mixed_bytes(with_counter, &out)
 }

@@ -1,55 +1,20 @@
-// The state that the lines drive, and the answers to them.
-ghost use Rattle.std.specs.Prelude.{◌≡◌};
-
-use bench_in_code::{Bench, Nodes};
-use std::io::Stdout;
-use text::{Buffer, output};
+// What several lines answer.
+use text::output::Printer;
 use wire::reply::Reply;
 
-#[derive(Clone, Copy)]
-pub struct State {
-    pub bench: Bench,
-    // How many modules the bench has; 0 before there is one.
-    pub modules: usize,
-    // The common ticks since the bench began.
-    pub ticks: u64,
+pub(crate) fn put_reply(out: &mut Printer, reply: Reply) {
+    out.put_decimal(u64::from(reply.number()));
 }
 
-// The state after a line, and the index in the output past its answer.
-#[derive(Clone, Copy)]
-pub struct Answer {
-    pub state: State,
-    pub to: usize,
+pub(crate) fn put_dead(out: &mut Printer) {
+    out.put(b"dead");
 }
 
-impl State {
-    // The fewest modules of a bench.
-    pub const LEAST: usize = 2;
-
-    // A bench of so many fresh modules.
-    pub(crate) fn of(modules: usize, nodes: &mut Nodes) -> State {
-        State {
-            bench: Bench::of(modules, nodes),
-            modules,
-            ticks: 0,
-        }
+// What a set up or a request answers; where nobody does, the module is dead.
+pub(crate) fn put_answer(out: &mut Printer, answer: Option<Result<(), Reply>>) {
+    match answer {
+        Some(Ok(())) => put_reply(out, Reply::Done),
+        Some(Err(reply)) => put_reply(out, reply),
+        None => put_dead(out),
     }
-}
-
-// The answer to a line that can't be read: nothing changes.
-pub(crate) fn unread(stdout: Stdout, state: State, out: &mut Buffer, to: usize) -> Answer
-    ensures { result.state ≡ state }
-{
-    Answer {
-        state,
-        to: output::put_byte(stdout, out, to, b'?'),
-    }
-}
-
-pub(crate) fn put_reply(stdout: Stdout, out: &mut Buffer, to: usize, reply: Reply) -> usize {
-    output::put_decimal(stdout, out, to, reply.number() as u64)
-}
-
-pub(crate) fn put_dead(stdout: Stdout, out: &mut Buffer, to: usize) -> usize {
-    output::put(stdout, out, to, b"dead")
 }

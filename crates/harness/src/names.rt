@@ -1,36 +1,21 @@
 // The numbers by which a line names modules and frames.
-ghost use Rattle.std.specs.Prelude.{◌<◌, ◌≤◌, min, length};
+ghost use Rattle.std.specs.Prelude.{◌<◌, ◌≡◌, min, length, IfSome};
+ghost use Rattle.text.specs.Words.{past};
 
 use bench_in_code::Bench;
-use bench_in_code::outbox::Frames;
-use text::numbers;
-
-// Where a word names none, ok is false.
-#[derive(Clone, Copy)]
-pub struct Name {
-    pub ok: bool,
-    pub value: usize,
-    pub next: usize,
-}
+use bench_in_code::outbox::{Frame, Frames};
+use text::words::Words;
 
 // A module of a bench of so many.
-pub(crate) fn module_at(line: &[u8], at: usize, modules: usize) -> Name
-    ensures { (result.value ≤ 7) × (min at (length line.now) < result.next) }
+pub(crate) fn module(words: &mut Words<'_>, modules: usize) -> Option<usize>
+    ensures within { IfSome result (λ who. who < 8) }
+    ensures moved { words.new ≡ past words.old }
+    ensures on { min words.old.at (length words.old.line) < words.new.at }
 {
-    let n = numbers::usize_at(line, at, Bench::PLACES - 1);
-    Name {
-        ok: n.ok & (n.value < modules),
-        value: n.value,
-        next: n.next,
-    }
+    words.number(Bench::PLACES - 1).filter(|who| *who < modules)
 }
 
-// A frame of so many that were given out.
-pub(crate) fn frame_at(line: &[u8], at: usize, given: usize) -> Name {
-    let n = numbers::usize_at(line, at, Frames::MOST - 1);
-    Name {
-        ok: n.ok & (n.value < given),
-        value: n.value,
-        next: n.next,
-    }
+// A frame of those that were given out.
+pub(crate) fn frame(words: &mut Words<'_>, frames: &Frames) -> Option<Frame> {
+    frames.at(words.number(Frames::MOST - 1)?)
 }

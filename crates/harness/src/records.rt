@@ -1,82 +1,54 @@
 // What a module dropped and delivered at a tick: how many, and records one after the other.
-use std::io::Stdout;
-use text::{Buffer, output, part};
+use text::output::Printer;
+use text::part;
 use wire::delivered::{RecordAt, record_at};
 
-// When and where.
+// Where, and when where the tick is written.
 #[derive(Clone, Copy)]
-pub struct Place {
+pub(crate) struct Place {
     pub module: usize,
-    pub tick: u64,
-    // Whether the tick is written.
-    pub dated: bool,
+    pub tick: Option<u64>,
 }
 
 // ` TICK:M:STREAM:PAYLOAD` for each record, without the tick where it is not asked for.
-pub(crate) fn put_all(
-    stdout: Stdout,
-    out: &mut Buffer,
-    to: usize,
-    place: Place,
-    records: &[u8],
-) -> usize {
-    let mut past = to;
+pub(crate) fn put_all(out: &mut Printer, place: Place, records: &[u8]) {
+    // Kept as a `while let`: it goes from record to record, each of which says where the next one is, and counts no index.
     let mut at = 0;
-    while at < records.len() {
-        let record = record_at(records, at);
-        if !record.ok {
-            return past;
-        }
-        let start = put_place(stdout, out, past, place);
-        past = put_record(stdout, out, start, records, record);
+    while let Ok(record) = record_at(records, at) {
+        put_place(out, place);
+        put_record(out, records, record);
         at = record.next;
     }
-    past
 }
 
 // ` TICK:M:dropped:N`, without the tick where it is not asked for; nothing where none was dropped.
-pub(crate) fn put_dropped(
-    stdout: Stdout,
-    out: &mut Buffer,
-    to: usize,
-    place: Place,
-    dropped: u32,
-) -> usize {
+pub(crate) fn put_dropped(out: &mut Printer, place: Place, dropped: u32) {
     if dropped == 0 {
-        return to;
+        return;
     }
-    let start = put_place(stdout, out, to, place);
-    let past = output::put(stdout, out, start, b"dropped:");
-    output::put_decimal(stdout, out, past, dropped as u64)
+    put_place(out, place);
+    out.put(b"dropped:");
+    out.put_decimal(u64::from(dropped));
 }
 
-fn put_place(stdout: Stdout, out: &mut Buffer, to: usize, place: Place) -> usize {
-    let start = output::put_byte(stdout, out, to, b' ');
-    if place.dated {
-        let past = output::put_parted(stdout, out, start, place.tick, b':');
-        return output::put_parted(stdout, out, past, place.module as u64, b':');
+fn put_place(out: &mut Printer, place: Place) {
+    out.put_byte(b' ');
+    if let Some(tick) = place.tick {
+        out.put_parted(tick, b':');
     }
-    output::put_parted(stdout, out, start, place.module as u64, b':')
+    out.put_parted(place.module as u64, b':');
 }
 
-// `STREAM:PAYLOAD` of the first record.
-pub(crate) fn put_first(stdout: Stdout, out: &mut Buffer, to: usize, records: &[u8]) -> usize {
-    put_record(stdout, out, to, records, record_at(records, 0))
+// `:STREAM:PAYLOAD` of the first record; nothing where there is none.
+pub(crate) fn put_first(out: &mut Printer, records: &[u8]) {
+    if let Ok(record) = record_at(records, 0) {
+        out.put_byte(b':');
+        put_record(out, records, record);
+    }
 }
 
-fn put_record(
-    stdout: Stdout,
-    out: &mut Buffer,
-    to: usize,
-    records: &[u8],
-    record: RecordAt,
-) -> usize {
-    let stream = record.stream;
-    let past = output::put_parted(stdout, out, to, stream.0 as u64, b':');
-    output::put_hex(
-        stdout,
-        out,
-        past,
-        part(records, record.payload, record.next),
-    )
+// `STREAM:PAYLOAD`
+fn put_record(out: &mut Printer, records: &[u8], record: RecordAt) {
+    out.put_parted(u64::from(record.stream.0), b':');
+    out.put_hex(part(records, record.payload, record.next));
 }

@@ -5,74 +5,68 @@ use node::slots::Message;
 use std::io::Stdout;
 use wire::ids::BusId;
 
+// A frame that the controller has received.
+#[derive(Clone, Copy)]
+pub struct Frame {
+    pub id: BusId,
+    pub dlc: u8,
+    pub bytes: [u8; Message::MAX_LEN],
+}
+
 // What a turn of the loop finds.
 #[derive(Clone, Copy)]
 pub struct Seen {
-    // The controller has received a frame.
-    pub received: bool,
-    pub id: u32,
-    pub dlc: u8,
-    pub bytes: [u8; Message::MAX_LEN],
+    pub received: Option<Frame>,
     // The timer's period is over.
     pub elapsed: bool,
-    // The application has new state to send.
-    pub wanted: bool,
-    pub state: u8,
+    // What the application has new to send.
+    pub wanted: Option<u8>,
     // The controller has no frame left to send.
     pub ready: bool,
-    // The script is over.
-    pub off: bool,
 }
 
 const TIMER: Seen = Seen {
-    received: false,
-    id: 0,
-    dlc: 0,
-    bytes: [0; Message::MAX_LEN],
+    received: None,
     elapsed: true,
-    wanted: false,
-    state: 0,
+    wanted: None,
     ready: true,
-    off: false,
 };
 
-// File 7 is announced twice, since its first sending failed half way, and confirmed; a frame of a stream
-// that this store has not set up comes by; the state changes twice; file 8 is never confirmed.
-pub(crate) fn look(turn: u64) -> Seen {
-    match turn {
-        2 => frame(20, 2, 7),
-        4 => frame(20, 2, 7),
-        5 => frame(21, 0, 0),
-        8 => frame(39, 1, 3),
-        24 => state(1),
-        26 => state(2),
-        45 => frame(20, 2, 8),
-        60 => off(),
+// What a turn finds, until the script is over. File 7 is announced twice, since its first sending failed half way, and confirmed; a
+// frame of a stream that this store has not set up comes by; the state changes twice; file 8 is never confirmed.
+pub(crate) fn look(turn: u64) -> Option<Seen> {
+    let seen = match turn {
+        2 | 4 => received(20, 2, 7),
+        5 => received(21, 0, 0),
+        8 => received(39, 1, 3),
+        24 => wanted(1),
+        26 => wanted(2),
+        45 => received(20, 2, 8),
+        60 => return None,
         _ => TIMER,
+    };
+    Some(seen)
+}
+
+fn received(id: u32, dlc: u8, number: u8) -> Seen {
+    let mut bytes = [0; Message::MAX_LEN];
+    bytes[1] = number;
+    Seen {
+        received: Some(Frame {
+            id: BusId(id),
+            dlc,
+            bytes,
+        }),
+        elapsed: false,
+        ..TIMER
     }
 }
 
-fn frame(id: u32, dlc: u8, number: u8) -> Seen {
-    let mut seen = TIMER;
-    seen.received = true;
-    seen.id = id;
-    seen.dlc = dlc;
-    seen.bytes[1] = number;
-    seen.elapsed = false;
-    seen
-}
-
-fn state(state: u8) -> Seen {
-    let mut seen = TIMER;
-    seen.wanted = true;
-    seen.state = state;
-    seen
-}
-
-fn off() -> Seen {
-    let mut seen = TIMER;
-    seen.off = true;
-    seen
+fn wanted(state: u8) -> Seen {
+    Seen {
+        wanted: Some(state),
+        ..TIMER
+    }
 }
 
 // A delivered record, for the application.
@@ -85,7 +79,7 @@ pub(crate) fn delivered(stdout: Stdout, record: &[u8]) {
 pub(crate) fn sent(stdout: Stdout, id: BusId, payload: &[u8]) {
     put(stdout, b"sent ");
     number(stdout, id.0);
-    if payload.len() > 0 {
+    if !payload.is_empty() {
         put(stdout, b" ");
     }
     hex(stdout, payload);
@@ -94,11 +88,9 @@ pub(crate) fn sent(stdout: Stdout, id: BusId, payload: &[u8]) {
 // The counts of the replies, in the order of their numbers.
 pub(crate) fn counted(stdout: Stdout, counts: &[u32; Tally::SIZE]) {
     put(stdout, b"tally");
-    let mut i = 0;
-    while i < Tally::SIZE {
+    for count in counts {
         put(stdout, b" ");
-        number(stdout, counts[i]);
-        i += 1;
+        number(stdout, *count);
     }
     put(stdout, b"\n");
 }

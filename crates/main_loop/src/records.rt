@@ -1,26 +1,17 @@
 // The records in an output, one after the other.
-ghost use Rattle.std.specs.Prelude.{◌≡◌, min};
-
 use crate::board;
 use std::io::Stdout;
 use wire::delivered::record_at;
 
+#[tactic(auto, using(wire::proofs::Reading::answered_within))]
 pub(crate) fn deliver(stdout: Stdout, out: &[u8], written: usize) {
-    let end = least(written, out.len());
-    let mut at: usize = 0;
-    while at < end {
-        let record = record_at(out, at);
-        if !record.ok {
+    let mut at = 0;
+    // Goes from record to record, and counts no index.
+    while at < written {
+        let Ok(record) = record_at(out, at) else {
             return;
-        }
-        let next = record.next;
-        board::delivered(stdout, &out[at..next]);
-        at = next;
+        };
+        board::delivered(stdout, &out[at..record.next]);
+        at = record.next;
     }
-}
-
-pub(crate) fn least(a: usize, b: usize) -> usize
-    ensures { result ≡ min a b }
-{
-    if a < b { a } else { b }
 }

@@ -1,7 +1,5 @@
-// A store module: its streams, with their numbers in ticks of one millisecond (docs/INTEGRATION.md), its
-// node and its tally.
-use module::tally::Tally;
-use node::Node;
+// A store module: its streams, with their numbers in ticks of one millisecond (docs/INTEGRATION.md), and its node and tally.
+use module::Module;
 use wire::ids::Stream;
 use wire::reply::Reply;
 use wire::settings::Settings;
@@ -12,47 +10,28 @@ const FILES: Stream = Stream(5);
 // This store's own state.
 pub(crate) const STATE: Stream = Stream(6);
 
-pub(crate) const STREAMS: u32 = 2;
-
-#[derive(Clone, Copy)]
+#[derive(Drop)]
 pub struct Store {
-    pub node: Node,
-    pub tally: Tally,
-    // What the application has to send, and whether it is still to be requested.
-    pub state: u8,
-    pub wanted: bool,
+    pub module: Module,
+    // What the application has to send, while it is still to be requested.
+    pub wanted: Option<u8>,
 }
 
 impl Store {
-    // Every stream set up. Whether all were taken is seen in the tally.
-    pub(crate) fn start() -> Store {
-        let fresh = Store {
-            node: Node::fresh(),
-            tally: Tally::zero(),
-            state: 0,
-            wanted: false,
-        };
-        let files = Settings::of_two_message(Settings::RECEIVE, 6, 6, 7, 14);
-        let state = Settings::of_imd(Settings::SEND, 8, 8);
-        let one = fresh.set_up(FILES, files);
-        one.set_up(STATE, state)
-    }
-
-    fn set_up(self, stream: Stream, settings: Settings) -> Store {
-        let node = self.node;
-        let answer = node.set_up(stream, settings);
-        let reply = answer.reply;
-        self.after(answer.node, reply)
-    }
-
-    // The store after a call: its node, and its reply counted.
-    pub(crate) fn after(self, node: Node, reply: Reply) -> Store {
-        let tally = self.tally;
+    pub(crate) fn new() -> Store {
         Store {
-            node,
-            tally: tally.counted(reply),
-            state: self.state,
-            wanted: self.wanted,
+            module: Module::fresh(),
+            wanted: None,
         }
+    }
+
+    // Sets up every stream.
+    pub(crate) fn set_up(&mut self) -> Result<(), Reply> {
+        self.module.set_up(
+            FILES,
+            Settings::of_two_message(Settings::RECEIVE, 6, 6, 7, 14),
+        )?;
+        self.module
+            .set_up(STATE, Settings::of_imd(Settings::SEND, 8, 8))
     }
 }

@@ -3,37 +3,29 @@
 #![tactic(auto)]
 
 use crate::settings::List;
-use text::input::Input;
-use text::{SIZE, comments, input};
+use text::comments::has_no_answer;
+use text::input::Lines;
+use text::output::Printer;
 
-mod answers;
 mod lines;
 mod replays;
 mod settings;
 mod writing;
 
 fn main(rt: HostRuntime) {
-    let stdin = rt.stdin();
-    let stdout = rt.stdout();
-    let mut buf = [0u8; SIZE];
-    let mut out = [0u8; SIZE];
-    let mut input = Input::new();
-    let mut comment = false;
+    let mut out = Printer::new(rt.stdout());
+    let mut lines = Lines::new(rt.stdin());
     let mut list = List::EMPTY;
-    let mut to = 0;
-    let mut turns = u64::MAX;
-    while turns > 0 {
-        turns -= 1;
-        let step = input.next(&buf);
-        comment = comments::in_comment(step, comment, &buf);
-        let line = input::line(step, &buf);
-        let answer = lines::answer(stdout, list, step, comment, line, &mut out, to);
-        let on = input::advance(stdin, stdout, step, &mut buf, &out, answer.to);
-        if input::is_end(step) {
+    for _ in 0..u64::MAX {
+        let Some(line) = lines.next(&mut out) else {
             return;
+        };
+        if has_no_answer(line) {
+            continue;
         }
-        list = answer.list;
-        input = on.input;
-        to = on.to;
+        if lines::answer(&mut list, line, &mut out).is_none() {
+            out.put_byte(b'?');
+        }
+        out.put_byte(b'\n');
     }
 }

@@ -1,20 +1,18 @@
 // The list of settings, and the lines that fill it.
-use crate::answers;
-use crate::answers::Answer;
-use std::io::Stdout;
-use text::settings::settings_at;
-use text::{Buffer, output, words};
+use text::output::Printer;
+use text::words::Words;
 use wire::ids::Stream;
 use wire::settings::Settings;
 
 #[derive(Clone, Copy)]
-pub struct Entry {
+pub(crate) struct Entry {
     pub stream: Stream,
     pub settings: Settings,
 }
 
+// Kept as an array and a count: the memory is fixed.
 #[derive(Clone, Copy)]
-pub struct List {
+pub(crate) struct List {
     // The first len of them.
     pub entries: [Entry; List::MOST],
     pub len: usize,
@@ -31,50 +29,28 @@ impl List {
         len: 0,
     };
 
-    // With an entry more, where there is room.
-    fn with(mut self, stream: Stream, settings: Settings) -> List {
-        let n = self.len;
-        if n < List::MOST {
-            self.entries[n] = Entry { stream, settings };
-            self.len = n + 1;
-        }
-        self
+    // Puts an entry behind the others and answers its index; None, with nothing changed, where there is no room.
+    fn push(&mut self, entry: Entry) -> Option<usize> {
+        let at = self.len;
+        *self.entries.get_mut(at)? = entry;
+        self.len = at + 1;
+        Some(at)
     }
 }
 
 // settings
-pub(crate) fn settings(
-    stdout: Stdout,
-    list: List,
-    line: &[u8],
-    at: usize,
-    out: &mut Buffer,
-    to: usize,
-) -> Answer {
-    if words::done(line, at) {
-        return Answer {
-            list: List::EMPTY,
-            to: output::put(stdout, out, to, b"settings"),
-        };
-    }
-    answers::unread(stdout, list, out, to)
+pub(crate) fn settings(list: &mut List, words: &mut Words<'_>, out: &mut Printer) -> Option<()> {
+    words.end()?;
+    *list = List::EMPTY;
+    out.put(b"settings");
+    Some(())
 }
 
 // setting STREAM ROLE CLASS RD DC RA DD
-pub(crate) fn setting(
-    stdout: Stdout,
-    list: List,
-    line: &[u8],
-    at: usize,
-    out: &mut Buffer,
-    to: usize,
-) -> Answer {
-    let read = settings_at(line, at);
-    if read.ok & words::done(line, read.next) & (list.len < List::MOST) {
-        return Answer {
-            list: list.with(read.stream, read.settings),
-            to: output::put_decimal(stdout, out, to, list.len as u64),
-        };
-    }
-    answers::unread(stdout, list, out, to)
+pub(crate) fn setting(list: &mut List, words: &mut Words<'_>, out: &mut Printer) -> Option<()> {
+    let (stream, settings) = words.settings()?;
+    words.end()?;
+    let at = list.push(Entry { stream, settings })?;
+    out.put_decimal(at as u64);
+    Some(())
 }

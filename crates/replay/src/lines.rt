@@ -1,74 +1,35 @@
 // The lines that are printed: deliveries, and a refusal at the end.
-use std::io::Stdout;
-use text::{Buffer, output, part};
+use playback::step::Fault;
+use text::output::Printer;
+use text::part;
 use wire::delivered::{RecordAt, record_at};
 
 // A line for each delivered record.
-pub(crate) fn put_all(
-    stdout: Stdout,
-    out: &mut Buffer,
-    to: usize,
-    tick: u64,
-    records: &[u8],
-) -> usize {
-    let mut past = to;
+#[tactic(auto, using(wire::proofs::Reading::answered_within))]
+pub(crate) fn put_all(out: &mut Printer, tick: u64, records: &[u8]) {
+    // Kept as a `while let`: it goes from record to record, each of which says where the next one is, and counts no index.
     let mut at = 0;
-    while at < records.len() {
-        let record = record_at(records, at);
-        if !record.ok {
-            return past;
-        }
-        past = put_delivery(stdout, out, past, tick, records, record);
+    while let Ok(record) = record_at(records, at) {
+        put_delivery(out, tick, records, record);
         at = record.next;
     }
-    past
 }
 
 // TICK STREAM LENGTH[ PAYLOAD]
-fn put_delivery(
-    stdout: Stdout,
-    out: &mut Buffer,
-    to: usize,
-    tick: u64,
-    records: &[u8],
-    record: RecordAt,
-) -> usize {
-    let stream = record.stream;
-    let start = output::put_parted(stdout, out, to, tick, b' ');
-    let next = output::put_parted(stdout, out, start, stream.0 as u64, b' ');
-    let past = output::put_decimal(stdout, out, next, record.length as u64);
-    let end = put_payload(
-        stdout,
-        out,
-        past,
-        part(records, record.payload, record.next),
-    );
-    output::put_byte(stdout, out, end, b'\n')
-}
-
-// A payload with a space before it, and nothing where it is empty.
-fn put_payload(stdout: Stdout, out: &mut Buffer, to: usize, payload: &[u8]) -> usize {
-    if payload.len() == 0 {
-        return to;
+fn put_delivery(out: &mut Printer, tick: u64, records: &[u8], record: RecordAt) {
+    out.put_parted(tick, b' ');
+    out.put_parted(u64::from(record.stream.0), b' ');
+    out.put_decimal(record.length as u64);
+    let payload = part(records, record.payload, record.next);
+    if !payload.is_empty() {
+        out.put_byte(b' ');
+        out.put_hex(payload);
     }
-    let past = output::put_byte(stdout, out, to, b' ');
-    output::put_hex(stdout, out, past, payload)
+    out.put_byte(b'\n');
 }
 
-pub(crate) fn flush(stdout: Stdout, out: &Buffer, to: usize) -> usize {
-    output::flush(stdout, out, to)
-}
-
-// Prints all, with REPLY OFFSET last where a record is at fault.
-pub(crate) fn end(stdout: Stdout, out: &mut Buffer, to: usize, reply: u32, offset: u64) {
-    let past = put_refusal(stdout, out, to, reply, offset);
-    output::flush(stdout, out, past);
-}
-
-fn put_refusal(stdout: Stdout, out: &mut Buffer, to: usize, reply: u32, offset: u64) -> usize {
-    if reply == 0 {
-        return to;
-    }
-    let past = output::put_parted(stdout, out, to, reply as u64, b' ');
-    output::put_parted(stdout, out, past, offset, b'\n')
+// REPLY OFFSET, of a record at fault.
+pub(crate) fn put_fault(out: &mut Printer, fault: Fault) {
+    out.put_parted(u64::from(fault.reply.number()), b' ');
+    out.put_parted(fault.offset, b'\n');
 }

@@ -2,10 +2,10 @@
 #![tactic(auto)]
 
 use playback::Playback;
-use playback::step::Way;
-use std::io::Stdin;
+use playback::step::Stepped;
+use text::output::Printer;
+use text::part;
 use text::window::Window;
-use text::{SIZE, part, window};
 use wire::ids::Stream;
 use wire::settings::Settings;
 
@@ -15,61 +15,37 @@ mod lines;
 // room to read into whenever one does.
 const WIDE: usize = 131072;
 
-type Wide = [u8; WIDE];
-
 fn main(rt: HostRuntime) {
-    let stdin = rt.stdin();
-    let stdout = rt.stdout();
-    let mut buf = [0u8; WIDE];
-    let mut out = [0u8; SIZE];
-    let mut window = Window::new();
+    let mut out = Printer::new(rt.stdout());
+    let mut window = Window::<WIDE>::new(rt.stdin());
     let mut playback = receiver();
-    let mut to = 0;
-    let mut turns = u64::MAX;
-    while turns > 0 {
-        turns -= 1;
-        let mut lent = [0u8; Playback::ROOM];
-        let step = playback.step(at_hand(window, &buf), window.ended, &mut lent);
-        let way = step.way;
-        let then = step.playback;
-        let past = lines::put_all(
-            stdout,
-            &mut out,
-            to,
-            then.ticks,
-            part(&lent, 0, step.written),
-        );
-        match way {
-            Way::On => {
-                window = window.past(step.took);
-                to = past;
+    for _ in 0..u64::MAX {
+        let mut lent = [0; Playback::ROOM];
+        match playback.step(window.bytes(), window.ended, &mut lent) {
+            Stepped::On { took, written } => {
+                lines::put_all(&mut out, playback.ticks, part(&lent, 0, written));
+                window.skip(took);
             }
-            Way::MoreBytes => {
-                to = lines::flush(stdout, &out, past);
-                window = read_on(stdin, window, &mut buf);
+            Stepped::MoreBytes => {
+                out.flush();
+                window.read();
             }
-            Way::MoreRoom => return,
-            Way::Over => {
-                let reply = step.reply;
-                lines::end(stdout, &mut out, past, reply.number(), step.offset);
+            Stepped::MoreRoom => return,
+            Stepped::Over(end) => {
+                if let Err(fault) = end {
+                    lines::put_fault(&mut out, fault);
+                }
+                out.flush();
                 return;
             }
         }
-        playback = then;
     }
 }
 
 // The fresh node with the one receive slot.
 fn receiver() -> Playback {
     let settings = Settings::of_two_message(Settings::RECEIVE, 2, 3, 2, 6);
-    let prepared = Playback::fresh().set_up(Stream(5), settings);
-    prepared.playback
-}
-
-fn at_hand(window: Window, buf: &Wide) -> &[u8] {
-    window::bytes(window, buf)
-}
-
-fn read_on(stdin: Stdin, window: Window, buf: &mut Wide) -> Window {
-    window::read(stdin, window, buf)
+    let mut playback = Playback::fresh();
+    let _ = playback.set_up(Stream(5), settings);
+    playback
 }

@@ -1,6 +1,6 @@
 // The list of streams that a line says.
 use response::streams::{Errors, StreamRecord};
-use text::{numbers, words};
+use text::words::Words;
 
 // The most records of a line.
 const MOST: usize = 80;
@@ -15,93 +15,43 @@ const NONE: StreamRecord = StreamRecord {
     d: 0,
 };
 
-// The first records of a list and how many there are, and whether it could be read.
+// The first records of a list, and how many there are. Kept as an array with its count: no heap, and `solve_array` is asked with both.
 #[derive(Clone, Copy)]
 pub(crate) struct List {
     pub streams: [StreamRecord; KEPT],
     pub len: usize,
-    pub ok: bool,
-}
-
-impl List {
-    const UNREAD: List = List {
-        streams: [NONE; KEPT],
-        len: 0,
-        ok: false,
-    };
-}
-
-#[derive(Clone, Copy)]
-pub(crate) struct ErrorsAt {
-    pub errors: Errors,
-    pub next: usize,
-    pub ok: bool,
-}
-
-#[derive(Clone, Copy)]
-struct StreamAt {
-    stream: StreamRecord,
-    next: usize,
-    ok: bool,
 }
 
 // N PERIOD INACC
-pub(crate) fn errors_at(line: &[u8], at: usize) -> ErrorsAt {
-    let n = numbers::u32_at(line, at, u32::MAX);
-    let period = numbers::u32_at(line, n.next, u32::MAX);
-    let time = numbers::u32_at(line, period.next, u32::MAX);
-    ErrorsAt {
-        errors: Errors {
-            n: n.value,
-            period: period.value,
-            inaccessibility: time.value,
-        },
-        next: time.next,
-        ok: n.ok & period.ok & time.ok,
-    }
+pub(crate) fn read_errors(words: &mut Words<'_>) -> Option<Errors> {
+    Some(Errors {
+        n: words.number(u32::MAX)?,
+        period: words.number(u32::MAX)?,
+        inaccessibility: words.number(u32::MAX)?,
+    })
 }
 
 // PRIORITY C T D
-fn stream_at(line: &[u8], at: usize) -> StreamAt {
-    let priority = numbers::u32_at(line, at, u32::MAX);
-    let c = numbers::u32_at(line, priority.next, u32::MAX);
-    let t = numbers::u32_at(line, c.next, u32::MAX);
-    let d = numbers::u32_at(line, t.next, u32::MAX);
-    StreamAt {
-        stream: StreamRecord {
-            priority: priority.value,
-            c: c.value,
-            t: t.value,
-            d: d.value,
-        },
-        next: d.next,
-        ok: priority.ok & c.ok & t.ok & d.ok,
-    }
+fn read_stream(words: &mut Words<'_>) -> Option<StreamRecord> {
+    Some(StreamRecord {
+        priority: words.number(u32::MAX)?,
+        c: words.number(u32::MAX)?,
+        t: words.number(u32::MAX)?,
+        d: words.number(u32::MAX)?,
+    })
 }
 
-// The records from index at to the end of the line.
-pub(crate) fn list_at(line: &[u8], at: usize) -> List {
+// The records up to the end of the line.
+pub(crate) fn read_list(words: &mut Words<'_>) -> Option<List> {
     let mut streams = [NONE; KEPT];
-    let mut len = 0;
-    let mut place = at;
-    while len <= MOST {
-        if words::done(line, place) {
-            return List {
-                streams,
-                len,
-                ok: true,
-            };
+    for len in 0..=MOST {
+        if words.is_done() {
+            return Some(List { streams, len });
         }
-        let read = stream_at(line, place);
-        let stream = read.stream;
-        if !read.ok {
-            return List::UNREAD;
-        }
+        let stream = read_stream(words)?;
         if len < KEPT {
             streams[len] = stream;
         }
-        place = read.next;
-        len += 1;
     }
-    List::UNREAD
+    None
 }

@@ -1,7 +1,6 @@
--- `recording::replays::put_all` is safe and ends: a record ends within the bytes and past its start, and the measure is the bytes that are left.
-use Prim.Native.Nat.{◌-◌}
-use lib.ListN.{length}
+-- `recording::replays::put_all` ends: the measure is the bytes that are left.
+use Rattle.std.proofs.Common.{◌-◌, length}
 use Rattle.recording.proofs.replays.put_all.Given as goal
 
-abbrev pub decreases-loop-at : goal.decreases-loop-at
-decreases-loop-at l = length l.records - l.at
+abbrev pub decreases-loop-record : goal.decreases-loop-record
+decreases-loop-record l = length l.records - l.at
