@@ -2,7 +2,7 @@
  * Kosmydore 6.0.0: the header of kosmydore.c
  *
  * Made by `./kosmydore portable DIR` from the proved program of the crate `firmware`. Not to be edited.
- *   program  sha256 becb32417ac8ae8d8bbcc87a9f12fb4e2446ecd6a42a5a3a63c31df0cbcef52e
+ *   program  sha256 24bbca3c0474a3501a95c4cddd2d1e8bfe1b7c474598f40da95a8fafd920462e
  *   kit      rattle-kit-13f logic dac8208d650f15bf
  *
  * What this rests on. Proved is the program before its translation: every answer and every byte, for every input that

@@ -180,6 +180,10 @@ void random_call(struct call *call, uint64_t *state, const struct bench *bench)
         if (call->payload_length == 8 && below(state, 4) == 0) call->dlc = 8 + below(state, 9);
         if (below(state, 40) == 0) call->dlc += UINT32_C(1) << (8 * (1 + below(state, 3))); /* is not cut */
     }
+    if (call->kind == NUMBERS && call->output_seed % 4 == 0) { /* a stream at its limit, and a code that is mostly one */
+        call->number = UINT32_C(134217726) + call->output_seed / 4 % 3;
+        call->code = call->output_seed / 12 % 5;
+    }
 }
 
 static void put(uint8_t **to, uint32_t number, int bytes)
@@ -322,6 +326,7 @@ static void due(struct kosmydore_node *node, uint32_t seed)
         struct kosmydore_slot *s = &node->slots[i];
         uint64_t r = random_step(&x);
         int limit;
+        bool early;
         uint32_t high = (uint32_t)(seed % 3 == 0 ? UINT32_C(134217727) - UINT32_C(65535) : 0);
         s->stream = high + ((uint32_t)i * 37 + (uint32_t)(r % 3) * 1000) % 60000;
         if (high && i == 31) s->stream = UINT32_C(134217727);
@@ -335,11 +340,14 @@ static void due(struct kosmydore_node *node, uint32_t seed)
         s->message.held = (r >> 32) % 16 != 0;
         s->message.confirmed = (seed >> 5) % 4 != 0 && (r >> 36) % 16 != 0;
         s->used = (r >> 40) % 32 != 0;
+        /* no set up makes these: they are to deliver before they are confirmed, and only the confirm delay keeps them */
+        early = (r >> 48) % 4 == 0 && s->settings.class_ == 2 && !s->message.confirmed;
+        if (early) s->settings.deliver_delay = (uint16_t)((r >> 16) % 4);
         /* when the counter has moved, the age is past its limit, or at it */
         limit = s->settings.role ? s->settings.data_reach + s->settings.deliver_delay
                 : s->settings.class_ == 2 && !s->message.confirmed ? s->settings.confirm_delay
                                                                    : s->settings.deliver_delay;
-        s->message.stamp = (uint16_t)(node->counter + 1 - limit - ((r >> 20) % 8 != 0));
+        s->message.stamp = (uint16_t)(node->counter + 1 - limit - (!early && (r >> 20) % 8 != 0));
         if (seed % 5 == 0) { /* one frame is pending, with the highest identifier of all */
             s->pending.payload = i == 31;
             s->pending.confirmation = s->pending.abort = false;
