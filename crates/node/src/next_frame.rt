@@ -10,6 +10,8 @@ ghost use Rattle.node.specs.Calls.{Call, after, roll_outcome};
 
 use crate::slots::{Message, Slot};
 use crate::{Given, Node};
+use wire::copying::copy;
+use wire::delivered::copy_eight;
 use wire::ids::{BusId, Stream};
 use wire::reply::Reply;
 use wire::settings::Settings;
@@ -78,7 +80,11 @@ fn put_payload(out: &mut [u8], m: Message) -> usize
     if out.len() < n {
         return 0;
     }
-    out[..n].copy_from_slice(&m.bytes[..n]);
+    if n == Message::MAX_LEN {
+        copy_eight(out, 0, &m.bytes);
+    } else {
+        copy(out, &m.bytes[..n]);
+    }
     n
 }
 

@@ -38,7 +38,10 @@ impl Node {
         let free = self.free_place().ok_or(Reply::TableFull)?;
         // Its slot stands before the first one with a higher stream; those from there on move up, to the free place.
         let place = place_above(&self.slots[..free], stream).unwrap_or(free);
-        self.slots.copy_within(place..free, place + 1);
+        // By index: of the library's `copy_within` the compiler makes a call of `memmove`, which firmware would have to bring.
+        for i in (place..free).rev() {
+            self.slots[i + 1] = self.slots[i];
+        }
         self.slots[place] = Slot::set_up(stream, settings);
         Ok(())
     }

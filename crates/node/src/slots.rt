@@ -6,6 +6,7 @@ ghost use Rattle.node.specs.Slots.{padded, holding, keeping, payload_of, same, t
 ghost use Rattle.node.specs.Slots.{empty, slot_for, is_free, is_of, is_receiver, is_sender};
 ghost use Rattle.node.specs.Request.{has_pending};
 
+use wire::copying::copy;
 use wire::frame::{MAX_PAYLOAD, at_most_payload};
 use wire::ids::Stream;
 use wire::settings::Settings;
@@ -81,9 +82,8 @@ impl Message {
 pub fn pad(payload: &[u8]) -> [u8; Message::MAX_LEN]
     ensures { result ≡ padded (take max_payload payload.now) }
 {
-    let n = at_most_payload(payload.len());
     let mut bytes = [0; Message::MAX_LEN];
-    bytes[..n].copy_from_slice(&payload[..n]);
+    copy(&mut bytes, payload);
     bytes
 }
 

@@ -4,7 +4,7 @@ use mathlib.Core.List.{List, [], ◌∷◌, ◌++◌}
 use Prim.Native.Nat.{ℕ, zero, suc, ◌+◌, ◌*◌, ◌≤◌}
 use native.Mathlib.Nat.{zero-add}
 use native.Mathlib.Omega.{arith}
-use lib.ListN.{length, take, drop}
+use lib.ListN.{length, take, drop, length-take, length-drop}
 use lib.Seq.{sets, sets-eq, drop-cons, drop-drop}
 use Rattle.std.proofs.Common.{append_assoc}
 use Rattle.wire.specs.Frames.{max_payload}
@@ -31,6 +31,9 @@ module _ (bytes : List ℕ) (at : ℕ) where
   four_here = rw (steps 1 at, steps 2 at, steps 3 at) (omega arith)
 
 -- a part of some bytes, read and written as one
+pub part_length : (k : ℕ) (bytes : List ℕ) (at : ℕ) → k + at ≤ length bytes → length (take k (drop at bytes)) ≡ k
+part_length k bytes at h = omega (arith, h, length-take k (drop at bytes), length-drop at bytes)
+
 pub part_here : (k : ℕ) (bytes : List ℕ) (at : ℕ) → k + at ≤ length bytes → take k (drop at bytes) ≡ bytes_at k bytes at
 part_here zero bytes at h = refl
 part_here (suc k) bytes at h = rw (drop-cons bytes at 0 (omega arith)) (ap (λ (l : List ℕ). byte_at bytes at ∷ l) (part_here k bytes (suc at) (omega arith)))

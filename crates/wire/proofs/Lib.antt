@@ -1,4 +1,5 @@
 -- What is shown of the definitions of wire.
+pub mod Copied
 pub mod Frames
 pub mod Identifiers
 pub mod LegalSettings

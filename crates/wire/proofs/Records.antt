@@ -67,3 +67,8 @@ pub stored : (s : Stream) (payload out : List ℕ) (n : ℕ) → length payload 
     → header s n ++ (payload ++ drop n (drop 8 out)) ≡ over (record_of s payload) out
 stored s payload out n e small =
     rw (record_length_law s payload, header_and_payload s payload (omega (arith, e)), e, drop-drop n 8 out)
+
+-- behind a stored header there is room for as many bytes as before
+pub room_behind : (head out : List ℕ) (n : ℕ) → length head ≡ 8 → 8 + n ≤ length out → length (take n (drop 8 (head ++ drop 8 out))) ≡ n
+room_behind head out n e room =
+    omega (arith, e, room, length-take n (drop 8 (head ++ drop 8 out)), length-drop 8 (head ++ drop 8 out), length-append head (drop 8 out), length-drop 8 out)

@@ -2,6 +2,7 @@
 use mathlib.Core.Path.{◌≡◌, sym, ◌∙◌}
 use Rattle.wire.specs.Uniqueness.{OneAnswer, OneContent}
 use Rattle.wire.proofs.class.carries.Reads as carries
+use Rattle.wire.proofs.copying.copy.Reads as copy
 use Rattle.wire.proofs.delivered.copy_eight.Reads as copy_eight
 use Rattle.wire.proofs.delivered.record_at.Reads as record_at
 use Rattle.wire.proofs.delivered.record_length.Reads as record_length_law
@@ -34,6 +35,9 @@ write_record_unique l input a b s t p q = same p.0 q.0
 
 pub write_record_content_unique : OneContent write_record.Post (λ l e. e.0.now)
 write_record_content_unique l input a b s t p q = same p.1 q.1
+
+pub copy_content_unique : OneContent copy.Post (λ l e. e.0.now)
+copy_content_unique l input a b s t p q = same p.0 q.0
 
 pub copy_eight_content_unique : OneContent copy_eight.Post (λ l e. e.0.now)
 copy_eight_content_unique l input a b s t p q = same p q

@@ -5,6 +5,7 @@ ghost use Rattle.wire.specs.Frames.{max_payload};
 ghost use Rattle.wire.specs.Answers.{answered};
 ghost use Rattle.wire.specs.Delivered.{record_length, fitting, record_of, over, number_at, record_at, as_read};
 
+use crate::copying::copy;
 use crate::frame::{MAX_PAYLOAD, at_most_payload};
 use crate::ids::Stream;
 use crate::reply::Reply;
@@ -44,17 +45,20 @@ fn put_record(out: &mut [u8], stream: Stream, payload: &[u8])
     let n = payload.len();
     let [s0, s1, s2, s3] = stream.0.to_le_bytes();
     let length = (RecordAt::LEAST_LENGTH + n) as u8;
-    out[..RecordAt::HEAD].copy_from_slice(&[length, 0, RecordAt::KIND as u8, 0, s0, s1, s2, s3]);
+    let head = [length, 0, RecordAt::KIND as u8, 0, s0, s1, s2, s3];
+    copy(&mut out[..RecordAt::HEAD], &head);
     // A full payload is the most frequent one: all of it is read before any is written, so that it is one load and one store.
     if n == MAX_PAYLOAD {
-        out[RecordAt::HEAD..RecordAt::HEAD + MAX_PAYLOAD].copy_from_slice(&first_eight(payload));
+        copy(
+            &mut out[RecordAt::HEAD..RecordAt::HEAD + MAX_PAYLOAD],
+            &first_eight(payload),
+        );
     } else {
-        out[RecordAt::HEAD..RecordAt::HEAD + n].copy_from_slice(payload);
+        copy(&mut out[RecordAt::HEAD..RecordAt::HEAD + n], payload);
     }
 }
 
-// Copies the first eight bytes of a payload to a place of the output, where both have so many. Kept, though nothing here calls it: it is
-// public, and its promise stands in docs/TRUST.md.
+// Copies the first eight bytes of a payload to a place of the output, where both have so many.
 pub fn copy_eight(out: &mut [u8], at: usize, payload: &[u8])
     ensures { out.new
         ≡ cond (leb (at + max_payload) (length out.old) && leb max_payload (length payload.now))
@@ -64,7 +68,7 @@ pub fn copy_eight(out: &mut [u8], at: usize, payload: &[u8])
     if payload.len() < MAX_PAYLOAD || room < MAX_PAYLOAD || room - MAX_PAYLOAD < at {
         return;
     }
-    out[at..at + MAX_PAYLOAD].copy_from_slice(&first_eight(payload));
+    copy(&mut out[at..at + MAX_PAYLOAD], &first_eight(payload));
 }
 
 fn first_eight(payload: &[u8]) -> [u8; 8]
@@ -72,7 +76,7 @@ fn first_eight(payload: &[u8]) -> [u8; 8]
     ensures { result ≡ take 8 payload.now }
 {
     let mut row = [0; MAX_PAYLOAD];
-    row.copy_from_slice(&payload[..MAX_PAYLOAD]);
+    copy(&mut row, &payload[..MAX_PAYLOAD]);
     row
 }
 

@@ -3,6 +3,7 @@
 #![tactic(auto)]
 
 pub mod class;
+pub mod copying;
 pub mod delivered;
 pub mod frame;
 pub mod ids;

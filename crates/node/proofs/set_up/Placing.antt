@@ -1,7 +1,7 @@
 -- Putting a slot in its place: where it is to stand, and how the slots from there on move up.
-use Rattle.std.proofs.Common.{◌≡◌, ℕ, zero, suc, ◌+◌, ◌-◌, ◌<◌, ◌≤◌, Bool, true, false, cond, not, ◌||◌, ltb, List, [], ◌∷◌, ◌++◌, length, get_or}
-use Rattle.std.proofs.Common.{take, drop, set, Some, None, position, unwrap_or, refl, ap, ◌∙◌, append_assoc, arith, length-take, ltb-false}
-use Rattle.std.specs.List.{position_or_len, copy_within}
+use Rattle.std.proofs.Common.{◌≡◌, ℕ, zero, suc, ◌+◌, ◌-◌, ◌<◌, ◌≤◌, Bool, true, false, cond, not, ◌||◌, ltb, List, [], ◌∷◌, length, get_or}
+use Rattle.std.proofs.Common.{take, set, Some, None, position, unwrap_or, refl, ap, ◌∙◌, arith, length-take, ltb-false}
+use Rattle.std.specs.List.{position_or_len}
 use Rattle.std.proofs.lemmas.List.Sums.{prefix_len-le-length}
 use Rattle.wire.specs.declared.ids.Stream.{Stream}
 use Rattle.node.specs.declared.slots.Slot.{Slot}
@@ -89,45 +89,6 @@ pub place_is : (s : Stream) (xs : List Slot) → index_of is_free xs < length xs
 place_is s xs room =
     let long : length (take (index_of is_free xs) xs) ≡ index_of is_free xs = length-take (index_of is_free xs) xs ∙ omega arith in
     place_or_length (λ y. ltb s.0 y.stream.0) (take (index_of is_free xs) xs) _ long ∙ before_free s xs
-
--- and moves the slots up
-without_first_free : (xs : List Slot) → take (index_of is_free xs) xs ++ drop (suc (index_of is_free xs)) xs ≡ less_free xs
-unfolding index_of less_free
-without_first_free [] = refl
-without_first_free (y ∷ ys) = go (is_free y) (without_first_free ys)
-  where
-    i : ℕ
-    i = index_of is_free ys
-
-    go : (t : Bool) → take i ys ++ drop (suc i) ys ≡ less_free ys
-        → take (cond t 0 (suc i)) (y ∷ ys) ++ drop (suc (cond t 0 (suc i))) (y ∷ ys) ≡ cond t ys (y ∷ less_free ys)
-    go true rest = refl
-    go false rest = ap (λ (l : List Slot). y ∷ l) rest
-
-up_by_one : (k n : ℕ) (xs : List Slot) → k + n ≡ index_of is_free xs → index_of is_free xs < length xs
-    → take (suc k) xs ++ (take n (drop k xs) ++ drop (suc (index_of is_free xs)) xs) ≡ moved_up k xs
-unfolding index_of moved_up
-up_by_one k n [] e room = absurd (omega arith)
-up_by_one zero n (y ∷ ys) e room =
-    let all : n ≡ index_of is_free (y ∷ ys) = omega arith in
-    rw all (ap (λ (l : List Slot). y ∷ l) (without_first_free (y ∷ ys)))
-up_by_one (suc k) n (y ∷ ys) e room = go (is_free y) e room (up_by_one k n ys)
-  where
-    i : ℕ
-    i = index_of is_free ys
-
-    go : (t : Bool) → suc k + n ≡ cond t 0 (suc i) → cond t 0 (suc i) < suc (length ys)
-        → (k + n ≡ i → i < length ys → take (suc k) ys ++ (take n (drop k ys) ++ drop (suc i) ys) ≡ moved_up k ys)
-        → take (suc (suc k)) (y ∷ ys) ++ (take n (drop (suc k) (y ∷ ys)) ++ drop (suc (cond t 0 (suc i))) (y ∷ ys)) ≡ y ∷ moved_up k ys
-    go true e room rest = absurd (omega arith)
-    go false e room rest = ap (λ (l : List Slot). y ∷ l) (rest (omega arith) (omega arith))
-
-pub copied_up : (k : ℕ) (xs : List Slot) → k ≤ index_of is_free xs → index_of is_free xs < length xs
-    → copy_within xs k (index_of is_free xs) (k + 1) ≡ moved_up k xs
-copied_up k xs before room =
-    let far : k + 1 + (index_of is_free xs - k) ≡ suc (index_of is_free xs) = omega arith in
-    let near : k + 1 ≡ suc k = omega arith in
-    rw (far, near) (append_assoc (take (suc k) xs) _ _ ∙ up_by_one k (index_of is_free xs - k) xs (omega arith) room)
 
 pub after_or_free : (s : Stream) (xs : List Slot) → index_of (is_after s) xs ≤ index_of is_free xs
 unfolding index_of

@@ -1,6 +1,5 @@
 -- The ways through setting up a stream: on each of them the outcome of the definition.
-use Rattle.std.proofs.Common.{◌≡◌, ℕ, ◌+◌, ◌<◌, ◌≤◌, true, false, not, ltb, List, [], length, take, set, position, unwrap_or, ap, ◌∙◌, arith}
-use Rattle.std.specs.List.{copy_within}
+use Rattle.std.proofs.Common.{◌≡◌, ℕ, ◌<◌, ◌≤◌, true, false, not, ltb, [], length, take, set, position, unwrap_or, ap, ◌∙◌, arith}
 use Rattle.wire.specs.declared.ids.Stream.{Stream}
 use Rattle.wire.specs.declared.settings.Settings.{Settings}
 use Rattle.wire.specs.declared.reply.Reply.{Reply}
@@ -13,7 +12,7 @@ use Rattle.node.specs.Slots.{slot_for, is_free, is_of, some}
 use Rattle.node.specs.Nodes.{has_slot, with_slots, Outcome, refused, done}
 use Rattle.node.specs.SetUp.{set_up_refusals, set_up}
 use Rattle.node.proofs.set_up.Cases.{set_up_cases}
-use Rattle.node.proofs.set_up.Placing.{is_after, place_is, copied_up, after_or_free, placed}
+use Rattle.node.proofs.set_up.Placing.{is_after, place_is, moved_up, after_or_free, placed}
 use Rattle.node.proofs.slots.Finding.{index_of, found, missed}
 
 module _ (s : Stream) (settings : Settings) (n : Node) where
@@ -44,14 +43,13 @@ module _ (s : Stream) (settings : Settings) (n : Node) where
         place_law : k ≡ index_of (is_after s) n.slots
         place_law = place ∙ rw free (place_is s n.slots (rw free at inside))
 
-        place_before : k ≤ j
+        pub place_before : k ≤ j
         place_before = rw (place_law, free) (after_or_free s n.slots)
 
-        pub stream_set : (l : List Slot) → l ≡ copy_within n.slots k j (k + 1) → (x : Slot) → x ≡ slot_for s settings
-            → Gives (done (with_slots (set l k x) n) [])
-        stream_set l moved x made =
+        pub stream_set : (m : Node) → m ≡ with_slots (moved_up k n.slots) n → (x : Slot) → x ≡ slot_for s settings
+            → Gives (done (with_slots (set m.slots k x) m) [])
+        stream_set m moved x made =
             let room : some is_free n.slots ≡ true = (found is_free n.slots (omega arith)).there in
             let taken = (set_up_cases s settings n).accepted_if (record { lawful = good; new = new; room = room }) in
-            let up = copied_up k n.slots (rw free at place_before) (rw free at inside) in
             let in_place = rw (← place_law) at (placed (slot_for s settings) n.slots (omega (arith, place_law, place_before))) in
-            taken ∙ rw (moved, made, free, up, in_place)
+            taken ∙ rw (moved, made, in_place)
