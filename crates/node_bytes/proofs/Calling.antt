@@ -1,18 +1,15 @@
 -- What a call on a lent node answers and leaves, from what the node's own call does.
 use Rattle.std.proofs.Common.{◌≡◌, ℕ, List, length, refl, sym, ap, ◌∙◌, eq-eqb, ne_eqb}
-use lib.Seq.{sets}
 use Rattle.wire.specs.declared.reply.Reply.TheVariants.{Done, BadLength}
 use Rattle.wire.specs.Delivered.{over}
 use Rattle.node.specs.declared.slots.Slot.{Slot}
 use Rattle.node.specs.Nodes.{Outcome, refused}
 use Rattle.node.specs.Clock.{rolled}
 use Rattle.node.specs.Calls.{Call, outcome}
-use Rattle.node_bytes.specs.Layout.{slot_start, node_size}
+use Rattle.node_bytes.specs.Layout.{node_size}
 use Rattle.node_bytes.specs.Decoding.{decode}
-use Rattle.node_bytes.specs.Encoding.{encode_slot}
 use Rattle.node_bytes.specs.Lent.{with_slot}
 use Rattle.node_bytes.specs.LentCalls.{lent_outcome, Leaves}
-use Rattle.node_bytes.proofs.Stored.{stored_length}
 
 module _ (c : Call) (before : List ℕ) where
   -- ── its outcome ──
@@ -64,7 +61,5 @@ module _ (c : Call) (before : List ℕ) where
 
       -- a slot is stored
       pub slot_put : o.reply ≡ Done → {r : R} → r ≡ answer o → {out : List ℕ} → out ≡ over o.bytes output → (i : ℕ) (x : Slot) {after : List ℕ}
-          → (after ≡ sets before (slot_start i) (encode_slot x)) × (decode after ≡ with_slot i x (decode before)) → with_slot i x (decode before) ≡ o.node
-          → Told r out after
-      slot_put done answers writes i x {after} (stored, left) made =
-          call_done done answers writes (stored_length before after i x stored) (left ∙ made)
+          → (length after ≡ length before) × (decode after ≡ with_slot i x (decode before)) → with_slot i x (decode before) ≡ o.node → Told r out after
+      slot_put done answers writes i x (long, left) made = call_done done answers writes long (left ∙ made)

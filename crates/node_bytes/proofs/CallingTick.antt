@@ -6,7 +6,7 @@ use Rattle.std.proofs.Common.{Ok}
 use Prim.Native.Nat.{ℕ, ◌+◌, ◌-◌, ◌≤◌, ◌<◌}
 use native.Mathlib.Omega.{arith}
 use lib.ListN.{length, take, drop, get_or, set}
-use lib.Seq.{set-set, get_or-set_same}
+use lib.Seq.{set-set}
 use Rattle.wire.specs.Frames.{max_payload}
 use Rattle.wire.specs.Delivered.{record_of, over, fitting}
 use Rattle.node.specs.declared.slots.Message.{Message}
@@ -30,6 +30,7 @@ use Rattle.node_bytes.specs.declared.tick.Lapse.TheVariants.{Stays, Dropped, Due
 use Rattle.node_bytes.specs.Decoding.{slot_from, slot_at, decode}
 use Rattle.node_bytes.specs.Lent.{with_slot, with_counter}
 use Rattle.node_bytes.proofs.ByIndex.{decoded_slot, decoded_length}
+use Rattle.node_bytes.proofs.Stored.{slot_there}
 use Rattle.node_bytes.proofs.Lapses.{Lapses, same_slot}
 use Rattle.node_bytes.proofs.Calling.{Told, call_done}
 
@@ -50,10 +51,7 @@ module _ (bytes after : List ℕ) (i : ℕ) (inside : i < slot_count) (y : Slot)
       (frames (slot_at after i).pending.payload (slot_at after i).pending.confirmation y.pending.abort))
       (decode after))) where
     read_between : slot_at after i ≡ with_message y.message (slot_at bytes i)
-    read_between =
-        sym (decoded_slot after i empty inside)
-        ∙ ap (λ (n : Node). get_or n.slots i empty) put.1
-        ∙ get_or-set_same (decode bytes).slots i _ empty (omega (arith, decoded_length bytes))
+    read_between = slot_there bytes after i _ inside put.1
 
     pub abort_put : y ≡ dropped (slot_at bytes i) → (length last ≡ length bytes) × (decode last ≡ with_slot i y (decode bytes))
     abort_put made =

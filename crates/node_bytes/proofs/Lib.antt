@@ -8,6 +8,7 @@ pub mod AreBytes
 pub mod Stored
 pub mod PendingStored
 pub mod MessageStored
+pub mod PartsStored
 pub mod Searching
 pub mod SettingUp
 pub mod Fitting

@@ -175,3 +175,44 @@ module _ (bytes : List ℕ) (i : ℕ) (whole : length bytes ≡ node_size) (insi
       flags_decoded bytes aborted i inside _ same_but_abort (as_flag (same_but_one (payload_pending_at + start) (λ e. omega arith)))
       (as_flag (same_but_one (confirmation_pending_at + start) (λ e. omega arith)))
       (as_flag (get_or-set_same bytes (abort_pending_at + start) (flag abort) 0 (omega arith)) ∙ flag_back abort)
+
+-- ── each is stored, whether it changes or not ──
+module _ (bytes : List ℕ) (i : ℕ) (whole : length bytes ≡ node_size) (inside : i < slot_count) (p : Pending) where
+  abbrev first : ℕ
+  first = slot_start i
+
+  abbrev with_payload : List ℕ
+  with_payload = set bytes (payload_pending_at + first) (flag p.payload)
+
+  abbrev with_confirmation : List ℕ
+  with_confirmation = set with_payload (confirmation_pending_at + first) (flag p.confirmation)
+
+  abbrev pub flags_set : List ℕ
+  flags_set = set with_confirmation (abort_pending_at + first) (flag p.abort)
+
+  pub flags_set_length : length flags_set ≡ length bytes
+  flags_set_length = simp length-set
+
+  back_payload : (j : ℕ) → (j ≡ payload_pending_at + first → ⊥) → byte_at with_payload j ≡ byte_at bytes j
+  back_payload j other = get_or-set_other bytes (payload_pending_at + first) j (flag p.payload) 0 other
+
+  back_confirmation : (j : ℕ) → (j ≡ confirmation_pending_at + first → ⊥) → byte_at with_confirmation j ≡ byte_at with_payload j
+  back_confirmation j other = get_or-set_other with_payload (confirmation_pending_at + first) j (flag p.confirmation) 0 other
+
+  back_abort : (j : ℕ) → (j ≡ abort_pending_at + first → ⊥) → byte_at flags_set j ≡ byte_at with_confirmation j
+  back_abort j other = get_or-set_other with_confirmation (abort_pending_at + first) j (flag p.abort) 0 other
+
+  same_but_flags : (j : ℕ) → (j < payload_pending_at + first) ⊎ (confirmed_at + first ≤ j) → byte_at flags_set j ≡ byte_at bytes j
+  same_but_flags j (inl h) = back_abort j (λ e. omega arith) ∙ back_confirmation j (λ e. omega arith) ∙ back_payload j (λ e. omega arith)
+  same_but_flags j (inr h) = back_abort j (λ e. omega arith) ∙ back_confirmation j (λ e. omega arith) ∙ back_payload j (λ e. omega arith)
+
+  pub flags_set_decoded : decode flags_set ≡ with_slot i (with_parts (slot_at bytes i) (slot_at bytes i).message p) (decode bytes)
+  flags_set_decoded =
+      flags_decoded bytes flags_set i inside p same_but_flags
+      (as_flag (back_abort (payload_pending_at + first) (λ e. omega arith) ∙ back_confirmation (payload_pending_at + first) (λ e. omega arith)
+      ∙ get_or-set_same bytes (payload_pending_at + first) (flag p.payload) 0 (omega arith))
+      ∙ flag_back p.payload)
+      (as_flag (back_abort (confirmation_pending_at + first) (λ e. omega arith)
+      ∙ get_or-set_same with_payload (confirmation_pending_at + first) (flag p.confirmation) 0 (simp length-set (omega arith)))
+      ∙ flag_back p.confirmation)
+      (as_flag (get_or-set_same with_confirmation (abort_pending_at + first) (flag p.abort) 0 (simp length-set (omega arith))) ∙ flag_back p.abort)

@@ -11,6 +11,7 @@ use lib.Seq.{sets, sets-eq, length-sets, length-take-le, ext_get_or, get_or-set_
 use lib.Dec.{eqb, ltb}
 use Rattle.wire.specs.Delivered.{little_endian, number_at}
 use Rattle.node.specs.declared.slots.Slot.{Slot}
+use Rattle.node.specs.declared.Node.{Node}
 use Rattle.node.specs.Slots.{empty}
 use Rattle.node.specs.Nodes.{slot_count}
 use Rattle.node_bytes.specs.Layout.{slot_size, slot_start, counter_at, node_size}
@@ -62,6 +63,13 @@ module _ (bytes after : List ℕ) (i : ℕ) (x : Slot) (inside : i < slot_count)
       (decoded_counter after
       ∙ counter_same after bytes counter_at (λ k p q. outside k (inr (omega arith)))
       ∙ sym (decoded_counter bytes))
+
+-- and slot i is what was stored
+pub slot_there : (bytes after : List ℕ) (i : ℕ) (x : Slot) → i < slot_count → decode after ≡ with_slot i x (decode bytes) → slot_at after i ≡ x
+slot_there bytes after i x inside left =
+    sym (decoded_slot after i empty inside)
+    ∙ ap (λ (n : Node). get_or n.slots i empty) left
+    ∙ get_or-set_same (decode bytes).slots i x empty (omega (arith, decoded_length bytes))
 
 -- the bytes of a slot are stored, whatever slot they are
 module _ (bytes row : List ℕ) (i : ℕ) (whole : length bytes ≡ node_size) (inside : i < slot_count) (long : length row ≡ slot_size) where

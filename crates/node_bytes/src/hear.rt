@@ -8,7 +8,7 @@ ghost use Rattle.node_bytes.specs.LentCalls.{lent_outcome, Leaves};
 use crate::counter::counter_of;
 use crate::finding::find;
 use crate::layout;
-use crate::slots::{put_slot, slot_at};
+use crate::slots::{put_parts, slot_at};
 use node::hear::deliver_plain;
 use node::{Heard, Node};
 use wire::frame::check_frame;
@@ -41,7 +41,7 @@ pub fn hear(
     slot.check_hear(code, payload)?;
     let told = slot.told(code);
     let heard = slot.hear(counter_of(bytes), code, payload);
-    put_slot(bytes, i, heard);
+    put_parts(bytes, i, heard.message, heard.pending);
     let written = deliver_plain(out, stream, code, payload);
     Ok(Heard { written, told })
 }

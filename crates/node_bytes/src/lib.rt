@@ -27,7 +27,8 @@
 // node's length and a slot that is there: calls test that once, and then use them.
 //
 // A call answers, and leaves, what the node's own call does to the node that the bytes are. It
-// decodes the one slot that it is about, takes the step that `node` has for it, and stores it.
+// decodes the one slot that it is about, takes the step that `node` has for it, and stores what the
+// step may change of it.
 #![tactic(auto)]
 
 pub mod counter;

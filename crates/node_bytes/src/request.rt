@@ -7,7 +7,7 @@ ghost use Rattle.node_bytes.specs.LentCalls.{lent_outcome, Leaves};
 use crate::counter::counter_of;
 use crate::finding::find;
 use crate::layout;
-use crate::slots::{put_slot, slot_at};
+use crate::slots::{put_parts, slot_at};
 use node::slots::Message;
 use wire::ids::Stream;
 use wire::reply::Reply;
@@ -27,6 +27,6 @@ pub fn request(bytes: &mut [u8], stream: Stream, payload: &[u8]) -> Result<(), R
     let slot = slot_at(bytes, i);
     slot.check_request()?;
     let requested = slot.requested(counter_of(bytes), payload);
-    put_slot(bytes, i, requested);
+    put_parts(bytes, i, requested.message, requested.pending);
     Ok(())
 }

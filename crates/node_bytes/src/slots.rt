@@ -296,6 +296,20 @@ pub(crate) fn put_message(bytes: &mut [u8], i: usize, message: Message)
     put_eight(bytes, layout::PAYLOAD + at, payload);
 }
 
+// Sets the message of slot i and which frames of it are pending, and nothing else of it. A flag is stored whether it changes or not: to ask
+// costs more, where the message is stored too.
+pub(crate) fn put_parts(bytes: &mut [u8], i: usize, message: Message, pending: Pending)
+    requires { (length bytes.old ≡ node_size) × (i < slot_count) }
+    ensures { (length bytes.new ≡ length bytes.old)
+        × (decode bytes.new ≡ with_slot i (with_parts (slot_at bytes.old i) message pending) (decode bytes.old)) }
+{
+    put_message(bytes, i, message);
+    let at = layout::SLOT_SIZE * i;
+    bytes[layout::PAYLOAD_PENDING + at] = flag(pending.payload);
+    bytes[layout::CONFIRMATION_PENDING + at] = flag(pending.confirmation);
+    bytes[layout::ABORT_PENDING + at] = flag(pending.abort);
+}
+
 pub(crate) fn put_slot(bytes: &mut [u8], i: usize, slot: Slot)
     requires { (length bytes.old ≡ node_size) × (i < slot_count) }
     ensures { (bytes.new ≡ sets bytes.old (slot_start i) (encode_slot slot))

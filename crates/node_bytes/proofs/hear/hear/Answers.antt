@@ -1,8 +1,9 @@
 -- `hear` meets its contract: each return cites the way through the definition, of the node that the bytes are.
-use Rattle.std.proofs.Common.{◌≡◌, ℕ, ◌<◌, List, length, refl, sym, ◌∙◌, arith}
+use Rattle.std.proofs.Common.{◌≡◌, ℕ, ◌<◌, List, length, refl, sym, ap, ◌∙◌, arith}
 use Rattle.wire.specs.Identifiers.{stream_of, code_of}
 use Rattle.wire.specs.Frames.{is_bare}
 use Rattle.wire.proofs.Frames.{IsFrame}
+use Rattle.node.specs.declared.slots.Slot.{Slot}
 use Rattle.node.specs.declared.Node.{Node}
 use Rattle.node.specs.Slots.{is_of}
 use Rattle.node.specs.Nodes.{as_heard}
@@ -11,8 +12,10 @@ use Rattle.node.specs.Calls.{Call}
 use Rattle.node.proofs.Answering.{was_refused, was_done, was_missed, was_found, hands_on, refuses_with}
 use Rattle.node.proofs.slots.Finding.{no_slot, index_of, place_found, place_missed}
 use Rattle.node.proofs.hear.Ways.{frame_whole, fits_at_once, short_output, no_frame_law, a_frame, no_slot_law, slot_refuses, heard, is_split, parts_are}
-use Rattle.node_bytes.specs.Decoding.{decode}
+use Rattle.node_bytes.specs.Decoding.{slot_at, decode}
+use Rattle.node_bytes.specs.Lent.{with_slot}
 use Rattle.node_bytes.proofs.ByIndex.{decoded_slot, decoded_length, decoded_counter}
+use Rattle.node_bytes.proofs.PartsStored.{DiffersInParts, heard_differs}
 use Rattle.node_bytes.proofs.Calling.{not_a_node, call_refused, slot_put}
 use Rattle.node_bytes.proofs.hear.hear.Goals as goal
 use Rattle.node_bytes.proofs.hear.hear.Goals.{Start, In_ok-check_frame, In_ok-i, After-slot_at-slot}
@@ -100,8 +103,8 @@ returns-in_err-check_hear c =
     (refuses_with _ _ c.from_residual-in_err-check_hear.ensures.1 said) refl in
     record { answer = t.0; output = t.1.0; leaves = t.1.1 }
 
-pub put_slot-requires : goal.put_slot-requires
-put_slot-requires c = (c.if-bytes-ne-NODE_SIZE.false, omega (arith, here (goal.at.put_slot-requires c).In_ok-i, decoded_length c.args.bytes.now))
+pub put_parts-requires : goal.put_parts-requires
+put_parts-requires c = (c.if-bytes-ne-NODE_SIZE.false, omega (arith, here (goal.at.put_parts-requires c).In_ok-i, decoded_length c.args.bytes.now))
 
 -- ── it hears ──
 pub returns : goal.returns
@@ -120,6 +123,10 @@ returns c =
     let fits = fits_at_once (stream_of s.args.id) (code_of s.args.id) (payload s) (output s) room in
     let counted = rw (parts.0, parts.1, fits, whole) at c.deliver_plain-written.ensures.answer in
     let written = rw (parts.0, parts.1, fits, whole) at c.deliver_plain-written.ensures.output in
+    let old = slot_at (bytes s) c.in_ok-i.i in
+    let differs : DiffersInParts old c.hear-heard.result = rw (c.hear-heard.ensures, c.slot_at-slot.ensures) (heard_differs _ _ _ old) in
+    let left = c.put_parts.ensures.1 ∙ ap (λ (x : Slot). with_slot c.in_ok-i.i x (node s)) differs in
     let t = slot_put (call s) (bytes s) as_heard (output s) c.if-bytes-ne-NODE_SIZE.false
-    (heard _ _ _ _ (node s) room frame _ h.0 no_slot h.1 _ refl said.1 changed) refl (rw (counted, told)) written _ _ c.put_slot.ensures refl in
+    (heard _ _ _ _ (node s) room frame _ h.0 no_slot h.1 _ refl said.1 changed) refl (rw (counted, told)) written _ _
+    (c.put_parts.ensures.0, left) refl in
     record { answer = t.0; output = t.1.0; leaves = t.1.1 }
