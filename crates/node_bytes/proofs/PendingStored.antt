@@ -24,7 +24,7 @@ use Rattle.node_bytes.proofs.SlotRoundTrip.{flag_back}
 use Rattle.node_bytes.proofs.Stored.{decode_changed}
 
 -- what a byte that was stored is as a flag
-as_flag : {b c : ℕ} → b ≡ c → not (eqb b 0) ≡ not (eqb c 0)
+pub as_flag : {b c : ℕ} → b ≡ c → not (eqb b 0) ≡ not (eqb c 0)
 as_flag e = ap (λ (b : ℕ). not (eqb b 0)) e
 
 -- ── the three flags are new, and no other byte is ──

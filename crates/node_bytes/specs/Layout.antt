@@ -36,7 +36,10 @@ role_at = 13
 abbrev pub class_at : ℕ
 class_at = 14
 
--- the byte at 15 is written as 0, and never read
+-- written as 0, and never read
+abbrev pub unread_at : ℕ
+unread_at = 15
+
 abbrev pub data_reach_at : ℕ
 data_reach_at = 16
 

@@ -28,6 +28,9 @@ pub const ROLE: usize = 13;
 
 pub const CLASS: usize = 14;
 
+// Written as 0, and never read.
+pub(crate) const UNREAD: usize = 15;
+
 pub const DATA_REACH: usize = 16;
 
 pub const CONFIRM_DELAY: usize = 18;

@@ -308,6 +308,18 @@ pub(crate) fn put_parts(bytes: &mut [u8], i: usize, message: Message, pending: P
     bytes[layout::PAYLOAD_PENDING + at] = flag(pending.payload);
     bytes[layout::CONFIRMATION_PENDING + at] = flag(pending.confirmation);
     bytes[layout::ABORT_PENDING + at] = flag(pending.abort);
+    put_same(bytes, i);
+}
+
+// Writes of slot i what `put_slot` writes though the slot is the same: `used` as 1 or 0, and 0 where nothing is read. So the bytes after a
+// call are the same, whether the slot is stored whole or in parts.
+fn put_same(bytes: &mut [u8], i: usize)
+    requires { (length bytes.old ≡ node_size) × (i < slot_count) }
+    ensures { (length bytes.new ≡ length bytes.old) × (decode bytes.new ≡ decode bytes.old) }
+{
+    let at = layout::SLOT_SIZE * i;
+    bytes[layout::USED + at] = flag(flag_at(bytes, layout::USED + at));
+    bytes[layout::UNREAD + at] = 0;
 }
 
 pub(crate) fn put_slot(bytes: &mut [u8], i: usize, slot: Slot)

@@ -13,5 +13,6 @@ returns c =
     let whole : length between ≡ node_size = c.put_message.ensures.0 ∙ c.requires.0 in
     let long = flags_set_length between a.i whole c.requires.1 a.pending in
     let left = flags_set_decoded between a.i whole c.requires.1 a.pending in
-    rw (c.flag.ensures, c.flag-2.ensures, c.flag-3.ensures)
-    (long ∙ c.put_message.ensures.0, parts_decoded a.bytes.now between _ a.i a.message a.pending c.requires.1 c.put_message.ensures.1 left)
+    let stored = parts_decoded a.bytes.now between _ a.i a.message a.pending c.requires.1 c.put_message.ensures.1 left in
+    let same = rw (c.flag.ensures, c.flag-2.ensures, c.flag-3.ensures) at c.put_same.ensures in
+    (same.0 ∙ long ∙ c.put_message.ensures.0, same.1 ∙ stored)
