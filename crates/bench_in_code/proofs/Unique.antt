@@ -15,6 +15,7 @@ use Rattle.bench_in_code.proofs.outbox.Frame.payload.Reads as payload
 use Rattle.bench_in_code.proofs.outbox.Frames.none.Reads as no_frames
 use Rattle.bench_in_code.proofs.outbox.Frames.push.Reads as push
 use Rattle.bench_in_code.proofs.outbox.Frames.at.Reads as frame_at
+use Rattle.bench_in_code.proofs.outbox.Frames.get.Reads as frame_get
 
 pub of_unique : OneAnswer of.Post
 of_unique l input a b s t p q = same p.0 q.0
@@ -78,3 +79,6 @@ push_unique l input a b s t = same
 
 pub frame_at_unique : OneAnswer frame_at.Post
 frame_at_unique l input a b s t = same
+
+pub frame_get_unique : OneAnswer frame_get.Post
+frame_get_unique l input a b s t = same

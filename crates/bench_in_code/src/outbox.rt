@@ -1,7 +1,7 @@
 // The frames that were given out, the first of them at 0.
 ghost use Rattle.std.specs.Prelude.{◌≡◌, ◌≤◌, length};
 ghost use Rattle.wire.specs.Frames.{max_payload};
-ghost use Rattle.bench_in_code.specs.InCode.{payload_of, no_frames, with_frame};
+ghost use Rattle.bench_in_code.specs.InCode.{payload_of, no_frames, frame_in, with_frame};
 ghost use Rattle.bench_in_code.specs.InBytes.{frame_at};
 
 use wire::frame::{MAX_PAYLOAD, at_most_payload};
@@ -65,13 +65,23 @@ impl Frames {
         }
     }
 
-    // The nth frame; past those given out, none.
-    pub fn at(&self, n: usize) -> Option<Frame>
+    // What is kept at the nth place; past the places, an empty frame.
+    pub fn at(&self, n: usize) -> Frame
+        ensures { result ≡ frame_in n self.now }
+    {
+        if n >= Frames::MOST {
+            return Frame::NONE;
+        }
+        self.all[n]
+    }
+
+    // The nth of the frames given out.
+    pub fn get(&self, n: usize) -> Option<Frame>
         ensures { result ≡ frame_at n self.now }
     {
         if n >= self.count || n >= Frames::MOST {
             return None;
         }
-        Some(self.all[n])
+        Some(self.at(n))
     }
 }

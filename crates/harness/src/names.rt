@@ -17,5 +17,5 @@ pub(crate) fn module(words: &mut Words<'_>, modules: usize) -> Option<usize>
 
 // A frame of those that were given out.
 pub(crate) fn frame(words: &mut Words<'_>, frames: &Frames) -> Option<Frame> {
-    frames.at(words.number(Frames::MOST - 1)?)
+    frames.get(words.number(Frames::MOST - 1)?)
 }
