@@ -19,7 +19,7 @@ pub struct Frame {
 impl Frame {
     pub const ROOM: usize = MAX_PAYLOAD;
 
-    const NONE: Frame = Frame {
+    pub const NONE: Frame = Frame {
         owner: 0,
         id: BusId(0),
         len: 0,

@@ -14,6 +14,8 @@ use wire::ids::Stream;
 use wire::reply::Reply;
 use wire::settings::Settings;
 
+pub type NodeBytes = [u8; NODE_SIZE];
+
 // What a module writes, behind it zeros: room for what any call writes.
 pub type Output = [u8; Node::TICK_ROOM];
 
@@ -26,7 +28,7 @@ pub type Ticking = Option<Result<Ticked, Reply>>;
 
 #[derive(Clone, Copy)]
 pub struct Module {
-    pub node: [u8; NODE_SIZE],
+    pub node: NodeBytes,
     pub live: bool,
 }
 

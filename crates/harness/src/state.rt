@@ -3,8 +3,8 @@ use bench_in_code::outbox::Frames;
 use bench_in_code::stations::CLEAR;
 use bench_in_code::{Bench, Outputs};
 
-#[derive(Drop)]
-pub(crate) struct State {
+#[derive(Clone, Copy)]
+pub struct State {
     pub bench: Bench,
     pub outs: Outputs,
     // The frames given out.
@@ -18,7 +18,7 @@ pub(crate) struct State {
 
 impl State {
     // The fewest modules of a bench.
-    pub(crate) const LEAST: usize = 2;
+    pub const LEAST: usize = 2;
 
     // A bench of so many fresh modules.
     pub(crate) fn of(modules: usize) -> State {
