@@ -1,4 +1,6 @@
 // The lines that ask something of one module: a set up, a request, its death.
+ghost use Rattle.std.specs.Prelude.{◌≡◌, IfNone};
+
 use crate::state::State;
 use crate::{answers, names};
 use text::output::Printer;
@@ -9,7 +11,9 @@ use wire::ids::Stream;
 const PAYLOAD: usize = 64;
 
 // setup M STREAM ROLE CLASS RD DC RA DD
-pub(crate) fn set_up(state: &mut State, words: &mut Words<'_>, out: &mut Printer) -> Option<()> {
+pub(crate) fn set_up(state: &mut State, words: &mut Words<'_>, out: &mut Printer) -> Option<()>
+    ensures unread { IfNone result (state.new ≡ state.old) }
+{
     let who = names::module(words, state.modules)?;
     let (stream, settings) = words.settings()?;
     words.end()?;
@@ -18,7 +22,9 @@ pub(crate) fn set_up(state: &mut State, words: &mut Words<'_>, out: &mut Printer
 }
 
 // request M STREAM PAYLOAD
-pub(crate) fn request(state: &mut State, words: &mut Words<'_>, out: &mut Printer) -> Option<()> {
+pub(crate) fn request(state: &mut State, words: &mut Words<'_>, out: &mut Printer) -> Option<()>
+    ensures unread { IfNone result (state.new ≡ state.old) }
+{
     let mut bytes = [0u8; PAYLOAD];
     let who = names::module(words, state.modules)?;
     let stream = words.number(u32::MAX)?;
@@ -30,7 +36,9 @@ pub(crate) fn request(state: &mut State, words: &mut Words<'_>, out: &mut Printe
 }
 
 // death M
-pub(crate) fn death(state: &mut State, words: &mut Words<'_>, out: &mut Printer) -> Option<()> {
+pub(crate) fn death(state: &mut State, words: &mut Words<'_>, out: &mut Printer) -> Option<()>
+    ensures unread { IfNone result (state.new ≡ state.old) }
+{
     let who = names::module(words, state.modules)?;
     words.end()?;
     state.bench.death(who);

@@ -1,4 +1,6 @@
 // The lines that change the frames given out: a new bench has none, and a giving out adds one.
+ghost use Rattle.std.specs.Prelude.{◌≡◌, IfNone};
+
 use crate::state::State;
 use crate::{answers, names};
 use bench_in_code::outbox::Frame;
@@ -8,7 +10,9 @@ use text::words::Words;
 use wire::reply::Reply;
 
 // modules N
-pub(crate) fn modules(state: &mut State, words: &mut Words<'_>, out: &mut Printer) -> Option<()> {
+pub(crate) fn modules(state: &mut State, words: &mut Words<'_>, out: &mut Printer) -> Option<()>
+    ensures unread { IfNone result (state.new ≡ state.old) }
+{
     let n = words.number(Bench::PLACES)?;
     words.end()?;
     if n < State::LEAST {
@@ -21,7 +25,9 @@ pub(crate) fn modules(state: &mut State, words: &mut Words<'_>, out: &mut Printe
 }
 
 // give M
-pub(crate) fn give(state: &mut State, words: &mut Words<'_>, out: &mut Printer) -> Option<()> {
+pub(crate) fn give(state: &mut State, words: &mut Words<'_>, out: &mut Printer) -> Option<()>
+    ensures unread { IfNone result (state.new ≡ state.old) }
+{
     let who = names::module(words, state.modules)?;
     words.end()?;
     let number = state.frames.count;

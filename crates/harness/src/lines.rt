@@ -1,4 +1,6 @@
 // The line at hand is answered by what its first word asks for.
+ghost use Rattle.std.specs.Prelude.{◌≡◌, IfNone};
+
 use crate::state::State;
 use crate::{asking, giving, sending, ticking};
 use text::input::Line;
@@ -6,7 +8,9 @@ use text::output::Printer;
 use text::words::Words;
 
 // None, with nothing printed and nothing changed, where the line can't be read.
-pub(crate) fn answer(state: &mut State, line: Line<'_>, out: &mut Printer) -> Option<()> {
+pub(crate) fn answer(state: &mut State, line: Line<'_>, out: &mut Printer) -> Option<()>
+    ensures unread { IfNone result (state.new ≡ state.old) }
+{
     let mut words = Words::of(line.ok()?);
     match words.word() {
         b"tick" => ticking::tick(state, &mut words, out),

@@ -1,4 +1,6 @@
 // Sendings of a frame, full and short, and what the modules answered that heard it.
+ghost use Rattle.std.specs.Prelude.{◌≡◌, IfNone};
+
 use crate::state::State;
 use crate::{answers, names, records};
 use bench_in_code::outbox::Frame;
@@ -11,7 +13,9 @@ use text::words::Words;
 use wire::reply::Reply;
 
 // full F
-pub(crate) fn full(state: &mut State, words: &mut Words<'_>, out: &mut Printer) -> Option<()> {
+pub(crate) fn full(state: &mut State, words: &mut Words<'_>, out: &mut Printer) -> Option<()>
+    ensures unread { IfNone result (state.new ≡ state.old) }
+{
     let frame = names::frame(words, &state.frames)?;
     words.end()?;
     send(state, frame, [true; Bench::PLACES], out);
@@ -19,7 +23,9 @@ pub(crate) fn full(state: &mut State, words: &mut Words<'_>, out: &mut Printer) 
 }
 
 // short F [M ...]
-pub(crate) fn short(state: &mut State, words: &mut Words<'_>, out: &mut Printer) -> Option<()> {
+pub(crate) fn short(state: &mut State, words: &mut Words<'_>, out: &mut Printer) -> Option<()>
+    ensures unread { IfNone result (state.new ≡ state.old) }
+{
     let frame = names::frame(words, &state.frames)?;
     let hearers = read_hearers(words, state.modules)?;
     send(state, frame, hearers, out);

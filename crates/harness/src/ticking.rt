@@ -1,4 +1,6 @@
 // Common ticks, and what they dropped and delivered.
+ghost use Rattle.std.specs.Prelude.{◌≡◌, IfNone};
+
 use crate::records;
 use crate::records::Place;
 use crate::state::State;
@@ -12,20 +14,26 @@ use text::words::Words;
 const TICKS: u64 = 1000000;
 
 // tick
-pub(crate) fn tick(state: &mut State, words: &mut Words<'_>, out: &mut Printer) -> Option<()> {
+pub(crate) fn tick(state: &mut State, words: &mut Words<'_>, out: &mut Printer) -> Option<()>
+    ensures unread { IfNone result (state.new ≡ state.old) }
+{
     words.end()?;
     run(state, 1, false, out)
 }
 
 // ticks N
-pub(crate) fn ticks(state: &mut State, words: &mut Words<'_>, out: &mut Printer) -> Option<()> {
+pub(crate) fn ticks(state: &mut State, words: &mut Words<'_>, out: &mut Printer) -> Option<()>
+    ensures unread { IfNone result (state.new ≡ state.old) }
+{
     let n = words.number(TICKS)?;
     words.end()?;
     run(state, n, true, out)
 }
 
 // So many ticks, with what each dropped and delivered. There are none before there is a bench.
-fn run(state: &mut State, n: u64, dated: bool, out: &mut Printer) -> Option<()> {
+fn run(state: &mut State, n: u64, dated: bool, out: &mut Printer) -> Option<()>
+    ensures unread { IfNone result (state.new ≡ state.old) }
+{
     if state.modules == 0 {
         return None;
     }
