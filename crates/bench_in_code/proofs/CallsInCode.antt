@@ -33,23 +33,23 @@ use Rattle.bench_in_code.proofs.StationsInBytes.{station_read, module_stored, li
 
 -- ── one module of the bench ──
 module _ (b : Bench) (eight : length b.modules ≡ 8) (who : ℕ) where
-  past_stays : 8 ≤ who → (change : history.Module → history.Module) → b ≡ on_module change who b
+  pub past_stays : 8 ≤ who → (change : history.Module → history.Module) → b ≡ on_module change who b
   past_stays past change =
       ap (λ (ms : List Station). record { modules = ms })
       (sym (at_past (λ (m : Station). kept (change (shown m))) who b.modules (omega (arith, eight, past))))
 
   module _ (inside : who < 8) (d : Station) where
-    read_is : get_or b.modules who d ≡ module_in who b
+    pub read_is : get_or b.modules who d ≡ module_in who b
     read_is = nth_inside d nobody who b.modules (omega (arith, eight, inside))
 
-    stored : (change : history.Module → history.Module) (m : Station) → m ≡ kept (change (shown (get_or b.modules who d)))
+    pub stored : (change : history.Module → history.Module) (m : Station) → m ≡ kept (change (shown (get_or b.modules who d)))
         → record { modules = set b.modules who m } ≡ on_module change who b
     stored change m e =
         ap (λ (ms : List Station). record { modules = ms })
         (rw (e, read_is) (at_inside (λ (m : Station). kept (change (shown m))) nobody who b.modules (omega (arith, eight, inside))))
 
     -- a call on its node
-    answers_there : (there : Bool) → there ≡ true → (c : Call) (o : Outcome) → o ≡ outcome rolled c (get_or b.modules who d).node
+    pub answers_there : (there : Bool) → there ≡ true → (c : Call) (o : Outcome) → o ≡ outcome rolled c (get_or b.modules who d).node
         → (m : Station) → m ≡ kept (with_node o.node (shown (get_or b.modules who d)))
         → record { bench = record { modules = set b.modules who m }; there = true; reply = o.reply } ≡ asked there c who b
     unfolding asked
@@ -58,7 +58,7 @@ module _ (b : Bench) (eight : length b.modules ≡ 8) (who : ℕ) where
         let bench = stored (with_node o.node) m e' in
         rw (t, bench, o_is)
 
-nobody_answers : (there : Bool) → there ≡ false → (c : Call) (who : ℕ) (b : Bench) → not_asked b ≡ asked there c who b
+pub nobody_answers : (there : Bool) → there ≡ false → (c : Call) (who : ℕ) (b : Bench) → not_asked b ≡ asked there c who b
 unfolding asked
 nobody_answers there t c who b = rw t
 
@@ -132,7 +132,7 @@ module _ (m : Module) (named own : Bool) (f : Frame) where
 
 -- ── giving out ──
 module _ (b : Bench) (eight : length b.modules ≡ 8) (who : ℕ) (fs : Frames) where
-  dead_gives_nothing : is_live_in who b ≡ false → not_given Dead fs b ≡ giving_of who fs b
+  pub dead_gives_nothing : is_live_in who b ≡ false → not_given Dead fs b ≡ giving_of who fs b
   unfolding giving_of
   dead_gives_nothing e = rw e
 
@@ -144,15 +144,15 @@ module _ (b : Bench) (eight : length b.modules ≡ 8) (who : ℕ) (fs : Frames) 
     is_done_here : (t : Bool) → is_done o.reply ≡ t → is_done (call_in next who b).reply ≡ t
     is_done_here t e = ap (λ (p : Outcome). is_done p.reply) (sym by_outcome) ∙ e
 
-    nothing_to_give : is_done o.reply ≡ false → not_given Nothing fs b ≡ giving_of who fs b
+    pub nothing_to_give : is_done o.reply ≡ false → not_given Nothing fs b ≡ giving_of who fs b
     unfolding giving_of
     nothing_to_give e = rw (live, is_done_here false e)
 
-    no_room : is_done o.reply ≡ true → capacity ≤ fs.count → not_given Full fs b ≡ giving_of who fs b
+    pub no_room : is_done o.reply ≡ true → capacity ≤ fs.count → not_given Full fs b ≡ giving_of who fs b
     unfolding giving_of
     no_room e full = rw (live, is_done_here true e, le-leb capacity fs.count full)
 
-    gives_out : is_done o.reply ≡ true → fs.count < capacity
+    pub gives_out : is_done o.reply ≡ true → fs.count < capacity
         → (m : Station) → m ≡ kept (with_node o.node (shown (get_or b.modules who d)))
         → record {
           bench = record { modules = set b.modules who m };

@@ -23,7 +23,7 @@ abbrev pub made_to : {A : Type 0} → (i : ℕ) (whole before : List A) → List
 made_to i whole before = take i whole ++ drop i before
 
 module _ {A : Type 0} where
-  one_made : (whole before : List A) → length before ≡ length whole → (i : ℕ) (x d : A) → i < length whole → x ≡ get_or whole i d
+  pub one_made : (whole before : List A) → length before ≡ length whole → (i : ℕ) (x d : A) → i < length whole → x ≡ get_or whole i d
       → set (made_to i whole before) i x ≡ made_to (suc i) whole before
   one_made [] before long i x d h is = absurd (not-suc-le-zero h)
   one_made (w ∷ ws) [] long i x d h is = absurd (omega (arith, long))
@@ -31,14 +31,14 @@ module _ {A : Type 0} where
   one_made (w ∷ ws) (b ∷ bs) long (suc i) x d h is =
       ap (λ (r : List A). w ∷ r) (one_made ws bs (omega (arith, long)) i x d (le_of_suc-le-suc h) is)
 
-  not_yet_made : (whole before : List A) → length before ≡ length whole → (i : ℕ) (d : A) → i < length whole
+  pub not_yet_made : (whole before : List A) → length before ≡ length whole → (i : ℕ) (d : A) → i < length whole
       → get_or (made_to i whole before) i d ≡ get_or before i d
   not_yet_made [] before long i d h = absurd (not-suc-le-zero h)
   not_yet_made (w ∷ ws) [] long i d h = absurd (omega (arith, long))
   not_yet_made (w ∷ ws) (b ∷ bs) long zero d h = refl
   not_yet_made (w ∷ ws) (b ∷ bs) long (suc i) d h = not_yet_made ws bs (omega (arith, long)) i d (le_of_suc-le-suc h)
 
-  all_made : (whole before : List A) → length before ≡ length whole → (i : ℕ) → length whole ≤ i → made_to i whole before ≡ whole
+  pub all_made : (whole before : List A) → length before ≡ length whole → (i : ℕ) → length whole ≤ i → made_to i whole before ≡ whole
   all_made [] [] long zero h = refl
   all_made [] [] long (suc i) h = refl
   all_made [] (b ∷ bs) long i h = absurd (omega (arith, long))
@@ -53,10 +53,10 @@ pub record MadeUp {A : Type 0} (i : ℕ) (l whole : List A) : Type 0 where
   pub same : l ≡ made_to i whole rest
 
 module _ {A : Type 0} {l whole : List A} where
-  nothing_made : length l ≡ length whole → MadeUp 0 l whole
+  pub nothing_made : length l ≡ length whole → MadeUp 0 l whole
   nothing_made long = record { rest = l; long = long; same = refl }
 
-  one_more_made : {i : ℕ} (w : MadeUp i l whole) (x : A) → i < length whole → x ≡ get_or whole i x → MadeUp (suc i) (set l i x) whole
+  pub one_more_made : {i : ℕ} (w : MadeUp i l whole) (x : A) → i < length whole → x ≡ get_or whole i x → MadeUp (suc i) (set l i x) whole
   one_more_made {i} w x inside is =
       record { rest = w.rest; long = w.long; same = rw w.same (one_made whole w.rest w.long i x x inside is) }
 
@@ -105,7 +105,7 @@ module _ {A : Type 0} (reads : Said → A) (turn : ℕ → Station → Turn) (st
       }
 
   module _ {i : ℕ} {modules : List Station} {said : List A} {outs : List (List ℕ)} (w : Turned i modules said outs) where
-    one_turned : i < 8 → (d m : Station) (s : A) (out : List ℕ)
+    pub one_turned : i < 8 → (d m : Station) (s : A) (out : List ℕ)
         → (s ≡ spoken (turn i (get_or modules i d))) × ((out ≡ wrote (turn i (get_or modules i d))) × (m ≡ (turn i (get_or modules i d)).after))
         → Turned (suc i) (set modules i m) (set said i s) (set outs i out)
     one_turned h d m s out (s_is, (out_is, m_is)) =
