@@ -5,7 +5,7 @@ use wire::delivered::{RecordAt, record_at};
 
 // Where, and when where the tick is written.
 #[derive(Clone, Copy)]
-pub(crate) struct Place {
+pub struct Place {
     pub module: usize,
     pub tick: Option<u64>,
 }
