@@ -22,8 +22,10 @@ use Rattle.response.specs.Verdicts.{Verdict, Done, ShortOutput, BadStream, Late,
 use Rattle.response.specs.Sheet.{Answers}
 use Rattle.response.proofs.streams.StreamRecord.legal.Reads as legal_record
 use Rattle.response.proofs.streams.Errors.legal.Reads as legal_errors
-use Rattle.response.proofs.refusal.Refusal.number.Reads as number
-use Rattle.response.proofs.refusal.Refusal.position.Reads as position
+use Rattle.response.proofs.refusal.Refusal.number.Reads as refusal_number
+use Rattle.response.proofs.refusal.Refusal.position.Reads as refusal_position
+use Rattle.response.proofs.refusal.number_of.Reads as number
+use Rattle.response.proofs.refusal.position_of.Reads as position
 use Rattle.response.proofs.lent.solve_array.Reads as solve_array
 use Rattle.response.specs.contracts.lent.solve as solve
 
@@ -33,6 +35,13 @@ legal_record_unique l input a b s t = same
 pub legal_errors_unique : OneAnswer legal_errors.Post
 legal_errors_unique l input a b s t = same
 
+pub refusal_number_unique : OneAnswer refusal_number.Post
+refusal_number_unique l input a b s t = same
+
+pub refusal_position_unique : OneAnswer refusal_position.Post
+refusal_position_unique l input a b s t = same
+
+-- of every answer, Done too
 pub number_unique : OneAnswer number.Post
 number_unique l input a b s t = same
 

@@ -1,6 +1,6 @@
 // Why a list of streams is refused.
 ghost use Rattle.std.specs.Prelude.{◌≡◌};
-ghost use Rattle.response.specs.Verdicts.{number_of, position_of, refused};
+ghost use Rattle.response.specs.Verdicts.{number_of, position_of, refused, verdict_of};
 
 use std::error::Error;
 use std::fmt;
@@ -35,6 +35,26 @@ impl Refusal {
             Refusal::Late(at) => at,
         }
     }
+}
+
+// The rules paper's number of the reply to a list: the refusal's, or that of done.
+pub fn number_of(answer: &Result<(), Refusal>) -> u32
+    ensures { result ≡ number_of (verdict_of answer.now) }
+{
+    match answer {
+        Ok(()) => 0,
+        Err(refusal) => refusal.number(),
+    }
+}
+
+// The value that is returned with it.
+pub fn position_of(answer: &Result<(), Refusal>) -> usize
+    ensures { result ≡ position_of (verdict_of answer.now) }
+{
+    let Err(refusal) = answer else {
+        return 0;
+    };
+    refusal.position()
 }
 
 impl fmt::Display for Refusal {

@@ -2,6 +2,7 @@
 use crate::lists;
 use crate::lists::List;
 use response::lent::solve_array;
+use response::refusal::{number_of, position_of};
 use response::streams::Errors;
 use text::input::Line;
 use text::output::Printer;
@@ -34,12 +35,9 @@ fn solve(words: &mut Words<'_>, out: &mut Printer) -> Option<()> {
 
 // REPLY POSITION ENTRIES
 fn put_sheet(list: List, errors: Errors, lent: &mut [u32], out: &mut Printer) {
-    let (reply, position) = match solve_array(list.streams, list.len, errors, lent) {
-        Ok(()) => (0, 0),
-        Err(refusal) => (refusal.number(), refusal.position()),
-    };
-    out.put_parted(u64::from(reply), b' ');
-    out.put_parted(position as u64, b' ');
+    let answer = solve_array(list.streams, list.len, errors, lent);
+    out.put_parted(u64::from(number_of(&answer)), b' ');
+    out.put_parted(position_of(&answer) as u64, b' ');
     put_entries(lent, out);
     out.put_byte(b'\n');
 }
