@@ -13,10 +13,11 @@ use Rattle.std.proofs.lemmas.List.Sums.{sum_by_push}
 use Rattle.response.specs.declared.streams.StreamRecord.{StreamRecord}
 use Rattle.response.specs.declared.streams.Errors.{Errors}
 use Rattle.response.specs.declared.claim.Claim.{Claim}
-use Rattle.response.specs.Streams.{most, at, LegalRecord, LegalErrors, LegalRecords}
-use Rattle.response.specs.Waiting.{ceiling, goes_before, blocking, interference, demand, solves}
+use Rattle.response.specs.Streams.{most, at, legal_record, LegalRecord, LegalErrors, LegalRecords}
+use Rattle.response.specs.Waiting.{ceiling, goes_before, blocking, interference, demand, solves, timely}
 use Rattle.response.specs.Claims.{InRange}
 use Rattle.response.specs.Recurrence.{asked, solves_with, cost_before, ClaimsOf}
+use Rattle.response.proofs.Limits.{record_tells}
 use Rattle.response.proofs.Claims.{claimed_by, asked-none}
 use Rattle.response.proofs.Listed.{interference_from, interference_past}
 
@@ -87,6 +88,9 @@ blocking_most streams s legal = of_each streams legal.each
     of_each [] each = omega arith
     of_each (j ∷ l) each =
         max-le (cost_most (goes_before s j) j.c (each 0 (omega arith)).c.1) (of_each l (λ k h. each (suc k) (omega arith)))
+
+pub timely_most : (s : StreamRecord) → legal_record s ≡ true → timely s ≤ most
+timely_most s legal_s = let r = (record_tells s).says legal_s in omega (arith, r.c.0, r.d.1)
 
 -- the claims make the equation
 pub same_equation : {streams : List StreamRecord} {errors : Errors} {s : StreamRecord} {claims : List Claim}

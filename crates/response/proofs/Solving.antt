@@ -1,5 +1,6 @@
 -- The streams of a list solved one by one, up to the first that can be late.
 use mathlib.Core.Path.{◌≡◌, refl, sym, ap, ◌∙◌}
+use mathlib.Core.Bool.{Bool, true, false, cond}
 use mathlib.Core.List.{List, [], ◌∷◌, ◌++◌, append_assoc}
 use Prim.Native.Nat.{ℕ, suc, ◌+◌, ◌*◌, ◌≤◌, ◌<◌}
 use native.Mathlib.Nat.{zero-add}
@@ -12,7 +13,7 @@ use Rattle.response.specs.declared.streams.StreamRecord.{StreamRecord}
 use Rattle.response.specs.declared.streams.Errors.{Errors}
 use Rattle.response.specs.Streams.{blank, at}
 use Rattle.response.specs.Waiting.{timely, waiting, response}
-use Rattle.response.specs.Sheet.{first_late, times}
+use Rattle.response.specs.Sheet.{is_timely, first_late, times}
 
 -- the first i streams keep their deadlines, and their times are in place
 pub record SolvedTo (streams : List StreamRecord) (errors : Errors) (i : ℕ) (numbers : List ℕ) : Type 0 where
@@ -30,6 +31,15 @@ pub times_count : (all listed : List StreamRecord) (errors : Errors) → length 
 unfolding times
 times_count all [] errors = refl
 times_count all (s ∷ listed) errors = omega (arith, times_count all listed errors)
+
+pub late_most : (all listed : List StreamRecord) (errors : Errors) → first_late all listed errors ≤ length listed
+unfolding first_late
+late_most all [] errors = omega arith
+late_most all (s ∷ listed) errors = by_test (is_timely all errors s) (late_most all listed errors)
+  where
+    by_test : (b : Bool) → first_late all listed errors ≤ length listed → cond b (suc (first_late all listed errors)) 0 ≤ suc (length listed)
+    by_test true h = omega arith
+    by_test false h = omega arith
 
 -- two numbers stored behind the first n
 two_stored : (l : List ℕ) (n a b : ℕ) → n + 1 < length l → take (n + 2) (set (set l n a) (n + 1) b) ≡ take n l ++ a ∷ b ∷ []
