@@ -2,6 +2,8 @@
 use mathlib.Core.Path.{◌≡◌, sym, ap, ◌∙◌}
 use mathlib.Core.Bool.{false≢true}
 use Rattle.std.specs.Prelude.{ℕ, Result, Ok, Err}
+use denote.RattleType.{RattleType}
+use denote.Param.Laws.{Laws}
 use Rattle.wire.specs.Uniqueness.{OneAnswer, OneContent}
 use Rattle.wire.proofs.Unique.{same}
 use Rattle.heard.specs.declared.kind.Kind.{Kind}
@@ -17,11 +19,16 @@ use Rattle.heard.proofs.kind.Kind.number.Reads as kind_number_law
 use Rattle.heard.proofs.kind.Kind.count_bytes.Reads as count_bytes
 use Rattle.heard.proofs.kind.KindTryFromU16.try_from.Reads as try_from
 use Rattle.heard.proofs.reading.heard_at.Reads as heard_at_law
-use Rattle.heard.proofs.reply.Reply.number.Reads as number
+use Rattle.heard.proofs.reply.Reply.number.Reads as refusal_number_law
+use Rattle.heard.proofs.reply.number_of.Reads as number
 use Rattle.heard.proofs.writing.write_heard.Reads as write_heard
 
-pub number_unique : OneAnswer number.Post
-number_unique l input a b s t = same
+pub refusal_number_unique : OneAnswer refusal_number_law.Post
+refusal_number_unique l input a b s t = same
+
+-- of every answer, Done too
+pub number_unique : (T : RattleType) (laws : Laws T) → OneAnswer (number.Post T laws)
+number_unique T laws l input a b s t = same
 
 pub kind_number_unique : OneAnswer kind_number_law.Post
 kind_number_unique l input a b s t = same

@@ -12,6 +12,11 @@ abbrev pub answered : {A : Type 0} → Reply → A → Result A code.Reply
 answered Done value = Ok value
 answered (Refused r) value = Err r
 
+-- the reply in an answer: done, or why not
+abbrev pub reply_in : {A : Type 0} → Result A code.Reply → Reply
+reply_in (Ok value) = Done
+reply_in (Err r) = Refused r
+
 -- how many bytes of the output were written
 abbrev pub as_written : Writing → Result ℕ code.Reply
 as_written w = answered w.reply (length w.bytes)

@@ -1,6 +1,7 @@
 // Why a heard record is not read, or not written: the numbered replies other than 0, which stands for done.
 ghost use Rattle.std.specs.Prelude.{◌≡◌};
-ghost use Rattle.heard.specs.Replies.{refusal_number};
+ghost use Rattle.heard.specs.Replies.{refusal_number, number_of};
+ghost use Rattle.heard.specs.Answers.{reply_in};
 
 use std::error::Error;
 use std::fmt;
@@ -21,6 +22,16 @@ impl Reply {
         ensures { result ≡ refusal_number self }
     {
         self as u32
+    }
+}
+
+// The number of an answer's reply: why not, or that of done.
+pub fn number_of<T>(answer: &Result<T, Reply>) -> u32
+    ensures { result ≡ number_of (reply_in answer.now) }
+{
+    match answer {
+        Ok(_) => 0,
+        Err(reply) => reply.number(),
     }
 }
 

@@ -8,6 +8,8 @@ use Rattle.playback.proofs.Playback.set_up.Reads as set_up_call
 use Rattle.playback.proofs.Playback.step.Reads as step
 use Rattle.playback.proofs.gap.gap.Reads as gap
 use Rattle.playback.proofs.quiet.quiet.Reads as quiet
+use Rattle.playback.proofs.step.number_of.Reads as number
+use Rattle.playback.proofs.step.offset_of.Reads as offset
 
 -- and so it leaves a lent playback as one playback only
 module _ {L : Type 0} {I A E : L → Type 0} where
@@ -32,6 +34,12 @@ step_content_unique l input a b s t p q = same p.2 q.2
 
 pub step_playback_unique : OnePlayback step.Post (λ l e. e.0.now)
 step_playback_unique l input a b s t p q = same p.1 q.1
+
+pub number_unique : OneAnswer number.Post
+number_unique l input a b s t = same
+
+pub offset_unique : OneAnswer offset.Post
+offset_unique l input a b s t = same
 
 pub gap_unique : OneAnswer gap.Post
 gap_unique l input a b s t = same

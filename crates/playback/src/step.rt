@@ -4,6 +4,7 @@ ghost use Rattle.wire.specs.Delivered.{over};
 ghost use Rattle.heard.specs.Replies.{Refused};
 ghost use Rattle.heard.specs.Answers.{was_read};
 ghost use Rattle.playback.specs.Steps.{at_fault, jumped, tick_step, hear_step, step, as_stepped};
+ghost use Rattle.playback.specs.Runs.{reply_of, offset_of};
 
 use crate::Playback;
 use crate::gap::gap;
@@ -35,6 +36,26 @@ pub struct Fault {
     pub reply: Reply,
     // Where the record at fault starts, modulo 2^64.
     pub offset: u64,
+}
+
+// The number of how a replay ended: its fault's, or that of done.
+pub fn number_of(end: &Result<(), Fault>) -> u32
+    ensures { result ≡ reply_of (Stepped.Over end.now) }
+{
+    match end {
+        Ok(()) => 0,
+        Err(fault) => fault.reply.number(),
+    }
+}
+
+// The offset that is returned with it.
+pub fn offset_of(end: &Result<(), Fault>) -> u64
+    ensures { result ≡ offset_of (Stepped.Over end.now) }
+{
+    let Err(fault) = end else {
+        return 0;
+    };
+    fault.offset
 }
 
 impl Playback {

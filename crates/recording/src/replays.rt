@@ -1,7 +1,7 @@
 // Replaying a recording that stands in a line.
 use crate::settings::List;
 use playback::Playback;
-use playback::step::{Fault, Stepped};
+use playback::step::{Fault, Stepped, number_of, offset_of};
 use text::output::Printer;
 use text::part;
 use text::words::Words;
@@ -27,11 +27,8 @@ fn put_replay(list: &List, recording: &[u8], out: &mut Printer) {
         Ok(ready) => ready,
         Err(reply) => return put_end(out, reply.number(), 0),
     };
-    let (reply, offset) = match play(ready, recording, |_, _| {}) {
-        Ok(()) => (0, 0),
-        Err(fault) => (fault.reply.number(), fault.offset),
-    };
-    put_end(out, reply, offset);
+    let end = play(ready, recording, |_, _| {});
+    put_end(out, number_of(&end), offset_of(&end));
     let _ = play(
         ready,
         recording,

@@ -1,4 +1,5 @@
 // Writing a heard record into an output that is lent, and was `ee` before.
+use heard::reply::number_of;
 use heard::writing::write_heard;
 use text::output::Printer;
 use text::words::Words;
@@ -22,12 +23,9 @@ pub(crate) fn write(words: &mut Words<'_>, out: &mut Printer) -> Option<()> {
     let size = words.number(MOST)?;
     words.end()?;
     let mut lent = [FILL; MOST];
-    let (reply, written) = match write_heard(&mut lent[..size], counter, id, dlc, &bytes[..len]) {
-        Ok(written) => (0, written),
-        Err(reply) => (reply.number(), 0),
-    };
-    out.put_parted(u64::from(reply), b' ');
-    out.put_parted(written as u64, b' ');
+    let answer = write_heard(&mut lent[..size], counter, id, dlc, &bytes[..len]);
+    out.put_parted(u64::from(number_of(&answer)), b' ');
+    out.put_parted(answer.unwrap_or_default() as u64, b' ');
     out.put_hex(&lent[..size]);
     Some(())
 }
