@@ -16,7 +16,8 @@ use Rattle.heard.specs.Answers.{was_read, was_told}
 use Rattle.heard.proofs.Numbers.{kind_known, kinds_distinct}
 use Rattle.heard.proofs.Replies.{refusals_distinct}
 use Rattle.heard.proofs.kind.Kind.number.Reads as kind_number_law
-use Rattle.heard.proofs.kind.Kind.count_bytes.Reads as count_bytes
+use Rattle.heard.proofs.kind.Kind.count_bytes.Reads as kind_count_bytes
+use Rattle.heard.proofs.kind.count_bytes.Reads as count_bytes
 use Rattle.heard.proofs.kind.KindTryFromU16.try_from.Reads as try_from
 use Rattle.heard.proofs.reading.heard_at.Reads as heard_at_law
 use Rattle.heard.proofs.reply.Reply.number.Reads as refusal_number_law
@@ -32,6 +33,9 @@ number_unique T laws l input a b s t = same
 
 pub kind_number_unique : OneAnswer kind_number_law.Post
 kind_number_unique l input a b s t = same
+
+pub kind_count_bytes_unique : OneAnswer kind_count_bytes.Post
+kind_count_bytes_unique l input a b s t p q = same p.0 q.0
 
 pub count_bytes_unique : OneAnswer count_bytes.Post
 count_bytes_unique l input a b s t p q = same p.0 q.0

@@ -43,3 +43,14 @@ impl TryFrom<u16> for Kind {
         }
     }
 }
+
+// How many bytes hold the count of a record that says this kind; none, where it is unknown.
+#[tactic(auto, unfolding(crate::specs::Kinds::count_bytes))]
+pub fn count_bytes(kind: u16) -> usize
+    ensures { (result ≡ count_bytes kind) × (result ≤ 4) }
+{
+    match Kind::try_from(kind) {
+        Ok(kind) => kind.count_bytes(),
+        Err(_) => 0,
+    }
+}

@@ -1,7 +1,8 @@
 -- Every public promise is met by one answer only, and leaves a lent output one content only.
-use Rattle.std.proofs.Common.{◌≡◌}
+use Rattle.std.proofs.Common.{◌≡◌, ℕ, refl}
 use Rattle.wire.specs.Uniqueness.{OneAnswer, OneContent}
 use Rattle.wire.proofs.Unique.{same}
+use Rattle.heard.specs.Records.{Heard}
 use Rattle.playback.specs.declared.Playback.{Playback}
 use Rattle.playback.proofs.Playback.fresh.Reads as fresh
 use Rattle.playback.proofs.Playback.set_up.Reads as set_up_call
@@ -41,8 +42,13 @@ number_unique l input a b s t = same
 pub offset_unique : OneAnswer offset.Post
 offset_unique l input a b s t = same
 
+-- a record that holds the count
+of_count : ℕ → Heard
+of_count count = record { kind = 0; count = count; id = record { 0 = 0 }; dlc = 0 }
+
 pub gap_unique : OneAnswer gap.Post
-gap_unique l input a b s t = same
+unfolding of_count
+gap_unique l input a b s t p q = same (p (of_count input.1.0) refl) (q (of_count input.1.0) refl)
 
 pub quiet_unique : OneAnswer quiet.Post
 quiet_unique l input a b s t = same

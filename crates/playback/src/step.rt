@@ -80,7 +80,7 @@ impl Playback {
         if out.len() < Playback::ROOM {
             return Stepped::MoreRoom;
         }
-        let gap = gap(self.ticks, read.heard);
+        let gap = gap(self.ticks, read.heard.count);
         let still = quiet(&self.node, gap);
         self.jump(still);
         if still < gap {

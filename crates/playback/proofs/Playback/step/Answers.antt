@@ -27,7 +27,7 @@ pub returns-then-still-gap : goal.returns-then-still-gap
 returns-then-still-gap c =
     let more = rw c.is_empty.ensures at c.if-ended-is_empty.false in
     does _ _ _ _
-    (to_a_tick _ _ _ _ more (was_read c.in-Ok.read) c.in-Ok.ensures refl (omega arith) _ _ c.gap-gap.ensures c.quiet-still.ensures _ c.jump.ensures
+    (to_a_tick _ _ _ _ more (was_read c.in-Ok.read) c.in-Ok.ensures refl (omega arith) _ _ (c.gap-gap.ensures _ refl) c.quiet-still.ensures _ c.jump.ensures
     c.if-still-gap.true)
     c.tick_step.ensures
 
@@ -40,6 +40,6 @@ pub returns : goal.returns
 returns c =
     let more = rw c.is_empty.ensures at c.if-ended-is_empty.false in
     does _ _ _ _
-    (to_the_record _ _ _ _ more (was_read c.in-Ok.read) c.in-Ok.ensures refl (omega arith) _ _ c.gap-gap.ensures c.quiet-still.ensures _ c.jump.ensures
+    (to_the_record _ _ _ _ more (was_read c.in-Ok.read) c.in-Ok.ensures refl (omega arith) _ _ (c.gap-gap.ensures _ refl) c.quiet-still.ensures _ c.jump.ensures
     c.if-still-gap.false)
     c.hear_step.ensures
