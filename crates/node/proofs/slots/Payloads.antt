@@ -1,7 +1,6 @@
 -- Payloads: comparing two, and the payload of a message.
-use Rattle.std.proofs.Common.{◌≡◌, ℕ, suc, ◌<◌, ◌≤◌, min, Bool, true, false, ◌&&◌, eqb, List, [], ◌∷◌, length, take, drop, sym, refl, ap, ◌∙◌, arith}
-use Rattle.std.proofs.Common.{take-append-drop, length-take, take_all, true≢false, eq-eqb, eqb-true}
-use lib.Pointwise.{pointwise}
+use Rattle.std.proofs.Common.{◌≡◌, ℕ, suc, ◌+◌, ◌<◌, ◌≤◌, min, Bool, true, false, ◌&&◌, eqb, List, [], ◌∷◌, length, get_or, take, drop, sym, refl, ap, ◌∙◌, add-one, arith}
+use Rattle.std.proofs.Common.{take-append-drop, drop_of_length-le, length-take, length-take-le, take_all, drop-cons, get_or-take, eq-eqb, ne_eqb}
 use lib.Seq.{take-append_seam}
 use Rattle.wire.specs.Frames.{max_payload}
 use Rattle.node.specs.declared.slots.Message.{Message}
@@ -19,31 +18,38 @@ differ_in_length (x ∷ a) (y ∷ b) h = go (eqb x y) (differ_in_length a b (λ 
     go true e = e
     go false e = refl
 
--- as `==` compares them
-equal_bytes : (a b : List ℕ) → pointwise eqb a b ≡ same_bytes a b
-unfolding same_bytes
-equal_bytes [] [] = refl
-equal_bytes [] (y ∷ b) = refl
-equal_bytes (x ∷ a) [] = refl
-equal_bytes (x ∷ a) (y ∷ b) = ap (λ (t : Bool). eqb x y && t) (equal_bytes a b)
+-- the loop at i: what was compared before i was the same
+abbrev pub Compared : (n : ℕ) (bytes payload : List ℕ) (i : ℕ) → Type 0
+Compared n bytes payload i = same_bytes (take n bytes) payload ≡ same_bytes (drop i (take n bytes)) (drop i payload)
 
--- a message, which has eight bytes, and a payload
-module _ (m : Message) (payload : List ℕ) (eight : length m.bytes ≡ max_payload) where
-  pub equal_to_payload : m.len ≤ max_payload → pointwise eqb (payload_of m) payload ≡ same m payload
-  equal_to_payload within = equal_bytes (payload_of m) payload ∙ go (eqb m.len (length payload)) refl
-    where
-      go : (t : Bool) → eqb m.len (length payload) ≡ t → same_bytes (payload_of m) payload ≡ (t && same_bytes (payload_of m) payload)
-      go true e = refl
-      go false e =
-          differ_in_length (payload_of m) payload
-          (λ same_length. true≢false (sym (eq-eqb _ _ (omega (arith, same_length, length-take m.len m.bytes, eight))) ∙ e))
+module _ (n : ℕ) (bytes payload : List ℕ) (enough : n ≤ length bytes) (as_long : length payload ≡ n) where
+  module _ (i : ℕ) (here : i < n) where
+    compared_at : same_bytes (drop i (take n bytes)) (drop i payload)
+        ≡ (eqb (get_or bytes i 0) (get_or payload i 0) && same_bytes (drop (i + 1) (take n bytes)) (drop (i + 1) payload))
+    unfolding same_bytes
+    compared_at =
+        let long = length-take-le n bytes enough in
+        rw (add-one, drop-cons (take n bytes) i 0 (omega arith), drop-cons payload i 0 (omega arith), get_or-take n bytes i 0 here)
 
-  pub too_long_to_equal : max_payload < m.len → same m payload ≡ false
-  too_long_to_equal long = go (eqb m.len (length payload)) refl
-    where
-      go : (t : Bool) → eqb m.len (length payload) ≡ t → (t && same_bytes (payload_of m) payload) ≡ false
-      go false e = refl
-      go true e = differ_in_length (payload_of m) payload (λ same_length. omega (arith, eqb-true _ _ e, same_length, length-take m.len m.bytes, eight))
+    pub same_so_far : Compared n bytes payload i → get_or bytes i 0 ≡ get_or payload i 0 → Compared n bytes payload (i + 1)
+    same_so_far inv e = inv ∙ compared_at ∙ rw (eq-eqb _ _ e)
+
+    pub another_byte : Compared n bytes payload i → (get_or bytes i 0 ≡ get_or payload i 0 → ⊥) → same_bytes (take n bytes) payload ≡ false
+    another_byte inv e = inv ∙ compared_at ∙ rw (ne_eqb _ _ e)
+
+  pub same_to_the_end : (i : ℕ) → n ≤ i → Compared n bytes payload i → same_bytes (take n bytes) payload ≡ true
+  unfolding same_bytes
+  same_to_the_end i past inv =
+      let long = length-take-le n bytes enough in
+      let a : length (take n bytes) ≤ i = omega arith in
+      let b : length payload ≤ i = omega arith in
+      inv ∙ rw (drop_of_length-le (take n bytes) a, drop_of_length-le payload b)
+
+pub message_of_another_length : (m : Message) (payload : List ℕ) → (length payload ≡ m.len → ⊥) → same m payload ≡ false
+message_of_another_length m payload h = let t = ne_eqb m.len (length payload) (λ e. h (sym e)) in rw t
+
+pub message_of_equal_length : (m : Message) (payload : List ℕ) → length payload ≡ m.len → same m payload ≡ same_bytes (payload_of m) payload
+message_of_equal_length m payload h = let t = eq-eqb m.len (length payload) (sym h) in rw t
 
 -- ── the payload of a message, which has eight bytes ──
 pub payload_length : (m : Message) → length m.bytes ≡ max_payload → length (payload_of m) ≡ min m.len max_payload
