@@ -10,7 +10,7 @@ const FILES: Stream = Stream(5);
 // This store's own state.
 pub(crate) const STATE: Stream = Stream(6);
 
-#[derive(Drop)]
+#[derive(Clone, Copy)]
 pub struct Store {
     pub module: Module,
     // What the application has to send, while it is still to be requested.

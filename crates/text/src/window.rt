@@ -6,7 +6,7 @@ use crate::part;
 use std::io::{Read, Stdin};
 
 // The bytes at hand are buffer[from..to]. Kept as a buffer with indexes: there is no heap here, and memory is fixed.
-#[derive(Drop)]
+#[derive(Clone, Copy)]
 pub struct Window<const N: usize> {
     pub stdin: Stdin,
     pub buffer: [u8; N],
