@@ -5,15 +5,17 @@ use mathlib.Core.Path.{◌≡◌, refl, sym, ◌∙◌}
 use mathlib.Core.Bool.{Bool, true, false, cond, ◌&&◌, true≢false}
 use mathlib.Core.List.{List, [], ◌∷◌}
 use lib.Dec.{eqb, ltb}
+use lib.Pointwise.{pointwise}
 use lib.ListN.{length, take, drop}
+use lib.Seq.{take-length}
 use Rattle.std.specs.Prelude.{Option, Some, None}
 use Rattle.std.specs.Option.{unwrap_or}
 use Rattle.std.specs.List.{position, position_or_len}
 use Rattle.std.proofs.lemmas.List.{take_rest}
 use Rattle.std.proofs.lemmas.List.Recursion.{is_position_or_len}
 use borrow.Author.Tests.{eqb-true, eq-eqb, ltb-false}
-use Rattle.text.specs.Bytes.{index_of, index_after}
-use Rattle.text.specs.Words.{word_at, bytes_at, same_bytes}
+use Rattle.text.specs.Bytes.{index_of, index_after, slice}
+use Rattle.text.specs.Words.{Word, word_at, bytes_at, same_bytes}
 
 by_test : (t : Bool) (k : ℕ) → index_after t k ≡ cond t 0 (1 + k)
 unfolding index_after
@@ -41,6 +43,12 @@ index_by_position b s = is_position_or_len (index_of b) (λ x. eqb x b) refl (λ
 
 pub found_or_length : (b : ℕ) (s : List ℕ) (r : Option ℕ) → r ≡ position (λ x. eqb x b) s → unwrap_or r (length s) ≡ index_of b s
 found_or_length b s r e = rw e (by_length _ (length s) _ refl (rw (← index_by_position b s) (index_le b s)) ∙ sym (index_by_position b s))
+
+-- the word that starts at one index and ends at the other
+pub word_from : (s : List ℕ) (at start end : ℕ) → start ≡ min at (length s) → end ≡ start + index_of 32 (slice start (length s) s)
+    → ◌≡◌ {A = Word} (record { start = start; end = end; next = end + 1 }) (word_at s at)
+unfolding slice word_at
+word_from s at start end p q = rw (q, take-length s, p)
 
 -- the word that the code cuts out, and where it goes on
 module _ (s : List ℕ) (at start len : ℕ) (p : start ≡ min at (length s)) (q : len ≡ index_of 32 (take (length s - start) (drop start s))) where
@@ -73,3 +81,20 @@ same_equal (x ∷ s) [] e = absurd (true≢false (sym e))
 same_equal (x ∷ s) (y ∷ t) e =
     let p = both (eqb x y) (same_bytes s t) e in
     rw (eqb-true x y p.0, same_equal s t p.1)
+
+equivalent : (a b : Bool) → (a ≡ true → b ≡ true) → (b ≡ true → a ≡ true) → a ≡ b
+equivalent true true f g = refl
+equivalent true false f g = sym (f refl)
+equivalent false true f g = g refl
+equivalent false false f g = refl
+
+-- a test that holds exactly where two words are equal is `same_bytes`
+pub same_test : (r : Bool) (s t : List ℕ) → (r ≡ true → s ≡ t) → (s ≡ t → r ≡ true) → r ≡ same_bytes s t
+same_test r s t f g = equivalent r (same_bytes s t) (λ e. rw (f e) (same_self t)) (λ e. g (same_equal s t e))
+
+-- what `==` tests at two slices of bytes
+pub same_by_each : (s t : List ℕ) → pointwise eqb s t ≡ same_bytes s t
+same_by_each [] [] = refl
+same_by_each [] (y ∷ t) = refl
+same_by_each (x ∷ s) [] = refl
+same_by_each (x ∷ s) (y ∷ t) = rw (same_by_each s t)
