@@ -2,6 +2,7 @@
 use Prim.Native.Nat.{ℕ}
 use mathlib.Core.Path.{◌≡◌, refl, sym, ap, ◌∙◌}
 use mathlib.Core.Bool.{Bool}
+use denote.Builtin
 use denote.RattleType.{RattleType}
 use denote.Param.Laws.{Laws, IsCopy}
 use mir.Syntax.{Dict, w64}
@@ -9,8 +10,23 @@ use Rattle.std.specs.Prelude.{Option, Some, None, Ok, Err}
 use Rattle.std.specs.Bool.{IsTrue}
 use Rattle.std.specs.Option.{SomeIff, option_map}
 use Rattle.std.specs.declared.clone.Clone
+use Rattle.std.specs.contracts.prelude.U8Clone.TheImpl as U8Clone
+use Rattle.std.specs.contracts.prelude.U16Clone.TheImpl as U16Clone
+use Rattle.std.specs.contracts.prelude.U32Clone.TheImpl as U32Clone
+use Rattle.std.specs.contracts.prelude.U64Clone.TheImpl as U64Clone
+use Rattle.std.specs.contracts.prelude.UsizeClone.TheImpl as UsizeClone
 use lib.ListN.{length}
 use Rattle.text.specs.declared.numbers.Unsigned
+use Rattle.text.specs.contracts.numbers.U8Unsigned.TheImpl as U8
+use Rattle.text.specs.contracts.numbers.U8Unsigned.TheImpl.Laws as U8Laws
+use Rattle.text.specs.contracts.numbers.U16Unsigned.TheImpl as U16
+use Rattle.text.specs.contracts.numbers.U16Unsigned.TheImpl.Laws as U16Laws
+use Rattle.text.specs.contracts.numbers.U32Unsigned.TheImpl as U32
+use Rattle.text.specs.contracts.numbers.U32Unsigned.TheImpl.Laws as U32Laws
+use Rattle.text.specs.contracts.numbers.U64Unsigned.TheImpl as U64
+use Rattle.text.specs.contracts.numbers.U64Unsigned.TheImpl.Laws as U64Laws
+use Rattle.text.specs.contracts.numbers.UsizeUnsigned.TheImpl as Usize
+use Rattle.text.specs.contracts.numbers.UsizeUnsigned.TheImpl.Laws as UsizeLaws
 use Rattle.text.specs.Words.{done_at}
 use Rattle.text.specs.Numbers.{number_of, number_at}
 use Rattle.text.specs.Payloads.{payload_of, payload_at}
@@ -163,6 +179,27 @@ module _ (T : RattleType) (L : Laws T) (C : IsCopy T) (U : Unsigned.Ghosts T.Den
 
   number_content_unique : OneContent (λ l e. e.0.now) (number.Post T L C U D K E)
   number_content_unique l input a b s t p q = same p.1.1.0 q.1.1.0
+
+-- so at each width there is one answer
+u8_unique : (L : Laws Builtin.u8) (C : IsCopy Builtin.u8)
+    → OneAnswer (λ l a. a) (number.Post Builtin.u8 L C U8.ghosts U8.dict U8Clone.ghosts U8Clone.dict)
+u8_unique L C = number_unique Builtin.u8 L C U8.ghosts U8.dict U8Clone.ghosts U8Clone.dict U8Laws.apart-law
+
+u16_unique : (L : Laws Builtin.u16) (C : IsCopy Builtin.u16)
+    → OneAnswer (λ l a. a) (number.Post Builtin.u16 L C U16.ghosts U16.dict U16Clone.ghosts U16Clone.dict)
+u16_unique L C = number_unique Builtin.u16 L C U16.ghosts U16.dict U16Clone.ghosts U16Clone.dict U16Laws.apart-law
+
+u32_unique : (L : Laws Builtin.u32) (C : IsCopy Builtin.u32)
+    → OneAnswer (λ l a. a) (number.Post Builtin.u32 L C U32.ghosts U32.dict U32Clone.ghosts U32Clone.dict)
+u32_unique L C = number_unique Builtin.u32 L C U32.ghosts U32.dict U32Clone.ghosts U32Clone.dict U32Laws.apart-law
+
+u64_unique : (L : Laws Builtin.u64) (C : IsCopy Builtin.u64)
+    → OneAnswer (λ l a. a) (number.Post Builtin.u64 L C U64.ghosts U64.dict U64Clone.ghosts U64Clone.dict)
+u64_unique L C = number_unique Builtin.u64 L C U64.ghosts U64.dict U64Clone.ghosts U64Clone.dict U64Laws.apart-law
+
+usize_unique : (L : Laws Builtin.usize) (C : IsCopy Builtin.usize)
+    → OneAnswer (λ l a. a) (number.Post Builtin.usize L C Usize.ghosts Usize.dict UsizeClone.ghosts UsizeClone.dict)
+usize_unique L C = number_unique Builtin.usize L C Usize.ghosts Usize.dict UsizeClone.ghosts UsizeClone.dict UsizeLaws.apart-law
 
 hex_unique : OneAnswer (λ l a. a) hex.Post
 hex_unique l input a b s t p q = let n = payload_of (length input.1.0.now) input.0.now in one_some n.ok n.len a b p.0 q.0
