@@ -4,7 +4,7 @@ use native.Mathlib.Omega.{arith}
 use mathlib.Core.Path.{◌≡◌, refl, sym, ap, ◌∙◌}
 use mathlib.Core.Bool.{Bool, true, false, cond}
 use mathlib.Core.List.{List}
-use Rattle.std.specs.Prelude.{None, Some, Result, Ok, Err}
+use Rattle.std.specs.Prelude.{Option, None, Some, Result, Ok, Err, is_some}
 use Rattle.std.specs.Borrow.{Bor}
 use Rattle.text.specs.Input.{Input, More, Step, kind_of, start_of, stop_of, line_of, more_of, none_of, step_of, Refilled}
 use Rattle.text.specs.Lines.{input_of, step_at, GoneOn, IsAtHand, long_of, ReadOn, IsFound, Found, IsLine, IsHanded, IsLeft}
@@ -28,6 +28,24 @@ more_by i end next false false c e = refl
 -- a step that asks for more
 more_is : (s : List ℕ) (i : Input) → (step_of s i).kind ≡ More → step_of s i ≡ more_of i
 more_is s i e = more_by i _ _ _ i.ended _ e
+
+over_by : (i : Input) (end next : ℕ) (a b c : Bool)
+    → ((cond a (line_of i end next) (cond b (cond c (line_of i (stop_of i) (stop_of i)) (none_of i)) (more_of i))).kind ≡ More → ⊥)
+    → (cond a (line_of i end next) (cond b (cond c (line_of i (stop_of i) (stop_of i)) (none_of i)) (more_of i))).input.over ≡ false
+over_by i end next true b c h = refl
+over_by i end next false true true h = refl
+over_by i end next false true false h = refl
+over_by i end next false false c h = absurd (h refl)
+
+no_long : (over : Option TooLong) → is_some over ≡ false → over ≡ None
+no_long None e = refl
+no_long (Some long) e = cc
+
+-- a step that doesn't ask for more leaves no line that is too long
+pub none_over : (old new : Lines) → ((step_at old).kind ≡ More → ⊥) → GoneOn old new → new.over ≡ None
+none_over old new h gone =
+    let i = input_of old in
+    no_long new.over (ap (λ (j : Input). j.over) gone.input ∙ over_by i _ _ _ i.ended _ h)
 
 known : (t : Bool) (of long : TooLong) → cond t (Some of) None ≡ Some long → long ≡ of
 known true of long e = cc

@@ -1,12 +1,17 @@
--- Every public promise is met by one answer only, and leaves a buffer one content only. `Lines::next` and `Window::read` read from outside.
-use Prim.Native.Nat.{ℕ}
+-- Every public promise is met by one answer only, and leaves a buffer one content only. `Lines::read`, `Lines::next` and `Window::read` read from
+-- outside. Where no read is needed, `Lines::next` has one answer too.
+use Prim.Native.Nat.{ℕ, zero, suc}
+use native.Mathlib.Omega.{arith}
 use mathlib.Core.Path.{◌≡◌, refl, sym, ap, ◌∙◌}
 use mathlib.Core.Bool.{Bool}
+use mathlib.Core.List.{List}
 use denote.Builtin
 use denote.RattleType.{RattleType}
 use denote.Param.Laws.{Laws, IsCopy}
 use mir.Syntax.{Dict, w64}
-use Rattle.std.specs.Prelude.{Option, Some, None, Ok, Err}
+use borrow.Author.Tests.{ne_eqb}
+use Rattle.std.specs.Prelude.{Option, Some, None, Result, Ok, Err}
+use Rattle.std.specs.Borrow.{Bor}
 use Rattle.std.specs.Bool.{IsTrue}
 use Rattle.std.specs.Option.{SomeIff, option_map}
 use Rattle.std.specs.declared.clone.Clone
@@ -32,15 +37,22 @@ use Rattle.text.specs.Numbers.{number_of, number_at}
 use Rattle.text.specs.Payloads.{payload_of, payload_at}
 use Rattle.text.specs.Settings.{settings_at}
 use mir.Val.{Fits}
-use Rattle.text.specs.Lines.{input_of, IsAtHand}
+use Rattle.text.specs.Input.{Kind, Line, Long, More, End}
+use Rattle.text.specs.Lines.{input_of, step_at, GoneOn, IsAtHand, ReadTimes, IsLine, IsHanded, IsNext, printed_at}
 use Rattle.text.specs.declared.input.Lines.{Lines}
+use Rattle.text.specs.declared.input.TooLong.{TooLong}
+use Rattle.text.specs.declared.output.Printer.{Printer}
 use Rattle.text.specs.declared.input.AtHand.{AtHand}
 use Rattle.text.specs.declared.input.AtHand.TheVariants.{Whole, Part, Nothing}
 use Rattle.text.specs.Window.{span_of}
 use Rattle.text.specs.Unique.{OneAnswer, OneContent}
+use Rattle.text.proofs.LineLaws.{none_over}
 use Rattle.text.proofs.part.Reads as part
 use Rattle.text.proofs.input.Lines.new.Reads as new
+use Rattle.text.proofs.input.Lines.next.Reads as next
 use Rattle.text.proofs.input.Lines.step.Reads as step
+use Rattle.text.proofs.input.Lines.line.Reads as line
+use Rattle.text.proofs.input.Lines.read.Reads as read
 use Rattle.text.proofs.comments.is_skipped.Reads as is_skipped
 use Rattle.text.proofs.comments.has_no_answer.Reads as has_no_answer
 use Rattle.text.proofs.window.Window.new.Reads as new_window
@@ -124,6 +136,119 @@ step_answer_unique l input a b s t p q = one_at_hand _ _ _ a b p.0 q.0
 
 step_buffer_unique : OneContent (λ l e. e.0.now.window.buffer) step.Post
 step_buffer_unique l input a b s t p q = same p.1.buffer q.1.buffer
+
+-- what is known of a line that is too long
+one_over : (old new other : Lines) (a : AtHand) → IsAtHand old a new → IsAtHand old a other → GoneOn old new → GoneOn old other → new.over ≡ other.over
+one_over old new other (Whole (Ok p)) f g gone on = same (none_over old new (λ e. cc) gone) (none_over old other (λ e. cc) on)
+one_over old new other (Whole (Err long)) f g gone on = same (none_over old new (λ e. cc) gone) (none_over old other (λ e. cc) on)
+one_over old new other Part f g gone on = same f.1 g.1
+one_over old new other Nothing f g gone on = same (none_over old new (λ e. cc) gone) (none_over old other (λ e. cc) on)
+
+step_over_unique : OneContent (λ l e. e.0.now.over) step.Post
+step_over_unique l input a b s t p q =
+    one_over _ _ _ a p.0 (rw (← one_at_hand _ _ _ a b p.0 q.0) at q.0) p.1 q.1
+
+-- the bytes of a line
+abbrev said : Result (Bor (List ℕ)) TooLong → Result (List ℕ) TooLong
+said (Ok line) = Ok line.now
+said (Err long) = Err long
+
+one_line_in : (s : List ℕ) (found : Result (ℕ × ℕ) TooLong) (a b : Result (Bor (List ℕ)) TooLong) → IsLine s found a → IsLine s found b → said a ≡ said b
+one_line_in s (Ok p) (Ok line) (Ok other) f g = ap (λ t. Ok t) (same f g)
+one_line_in s (Ok p) (Ok line) (Err long) f g = absurd g
+one_line_in s (Ok p) (Err long) b f g = absurd f
+one_line_in s (Err found) (Ok line) b f g = absurd f
+one_line_in s (Err found) (Err long) (Ok line) f g = absurd g
+one_line_in s (Err found) (Err long) (Err other) f g = ap (λ t. Err t) (same f g)
+
+line_unique : OneAnswer (λ l a. said a) line.Post
+line_unique l input a b s t = one_line_in _ _ a b
+
+-- a read comes from outside: what is known of a line that is too long, and the output
+read_over_unique : OneContent (λ l e. e.0.now.over) read.Post
+read_over_unique l input a b s t p q = same p.1.0 q.1.0
+
+read_index_unique : OneContent (λ l e. e.1.0.now.at) read.Post
+read_index_unique l input a b s t p q = same p.1.1.0 q.1.1.0
+
+read_output_unique : OneContent (λ l e. e.1.0.now.buffer) read.Post
+read_output_unique l input a b s t p q = same p.1.1.1 q.1.1.1
+
+-- the next line needs a read only where more is to be read
+read_for_more : (n : ℕ) (old new : Lines) → ReadTimes (suc n) old new → (step_at old).kind ≡ More
+read_for_more zero old new r = ap (λ x. (step_at x).kind) (sym r.1.0) ∙ r.1.1.more
+read_for_more (suc n) old new r = read_for_more n old r.0 r.1.0
+
+-- so where no more is, what is handed out is what is at hand
+handed_at_hand : (n : ℕ) (old last : Lines) (r : Option (Result (Bor (List ℕ)) TooLong)) → ((step_at old).kind ≡ More → ⊥)
+    → ReadTimes n old last → IsHanded n last r → IsHanded zero old r
+handed_at_hand zero old last r h came handed = rw (sym came) handed
+handed_at_hand (suc n) old last r h came handed = absurd (h (read_for_more n old last came))
+
+-- an answer with the bytes of its line
+abbrev bytes_of : Option (Result (Bor (List ℕ)) TooLong) → Option (Result (List ℕ) TooLong)
+bytes_of None = None
+bytes_of (Some line) = Some (said line)
+
+end_alone : (old : Lines) → IsHanded zero old None → (step_at old).kind ≡ End
+end_alone old f = f (omega arith)
+
+not_line : (k : Kind) → k ≡ End → k ≡ Line → ⊥
+not_line k p q = cc
+
+not_long : (k : Kind) → k ≡ End → k ≡ Long → ⊥
+not_long k p q = cc
+
+line_or_long : (k : Kind) → k ≡ Line → k ≡ Long → ⊥
+line_or_long k p q = cc
+
+one_long : (o : Option TooLong) (x y : TooLong) → o ≡ Some x → o ≡ Some y → x ≡ y
+one_long o x y p q = cc
+
+one_handed : (old : Lines) (a b : Option (Result (Bor (List ℕ)) TooLong)) → IsHanded zero old a → IsHanded zero old b → bytes_of a ≡ bytes_of b
+one_handed old None None f g = refl
+one_handed old None (Some (Ok line)) f g = absurd (not_line _ (end_alone old f) g.0)
+one_handed old None (Some (Err long)) f g = absurd (not_long _ (end_alone old f) g.0)
+one_handed old (Some (Ok line)) None f g = absurd (not_line _ (end_alone old g) f.0)
+one_handed old (Some (Ok line)) (Some (Ok other)) f g = ap (λ s. Some (Ok s)) (same f.1 g.1)
+one_handed old (Some (Ok line)) (Some (Err long)) f g = absurd (line_or_long _ f.0 g.0)
+one_handed old (Some (Err long)) None f g = absurd (not_long _ (end_alone old g) f.0)
+one_handed old (Some (Err long)) (Some (Ok line)) f g = absurd (line_or_long _ g.0 f.0)
+one_handed old (Some (Err long)) (Some (Err other)) f g = ap (λ x. Some (Err x)) (one_long old.over long other f.1 g.1)
+
+-- and there is one next line
+one_next : (old : Lines) (from to other : Printer) (a b : Option (Result (Bor (List ℕ)) TooLong)) → ((step_at old).kind ≡ More → ⊥)
+    → IsNext old from a to → IsNext old from b other → bytes_of a ≡ bytes_of b
+one_next old from to other a b h p q =
+    one_handed old a b (handed_at_hand p.reads old p.last a h p.came p.handed) (handed_at_hand q.reads old q.last b h q.came q.handed)
+
+next_unique : OneAnswer (λ l a. bytes_of a) (λ l input a s. ((step_at input.0.now).kind ≡ More → ⊥) × next.Post l input a s)
+next_unique l input a b s t p q = one_next input.0.now input.1.0.now _ _ a b p.0 p.1 q.1
+
+-- what is printed before a read and at the end
+abbrev printed_to : Kind → ℕ → ℕ
+printed_to Line at = at
+printed_to Long at = at
+printed_to More at = 0
+printed_to End at = 0
+
+printed_by : (n : ℕ) (old last : Lines) (r : Option (Result (Bor (List ℕ)) TooLong)) (at : ℕ) → ReadTimes n old last → IsHanded n last r
+    → printed_at n r at ≡ printed_to (step_at old).kind at
+printed_by zero old last None at came f = rw (← came, f (omega arith))
+printed_by zero old last (Some (Ok line)) at came f = rw (← came, f.0)
+printed_by zero old last (Some (Err long)) at came f = rw (← came, f.0)
+printed_by (suc n) old last None at came f = rw (read_for_more n old last came)
+printed_by (suc n) old last (Some line) at came f = rw (read_for_more n old last came, ne_eqb (suc n) 0 (λ e. omega (arith, e)))
+
+printed_next : (old : Lines) (from to : Printer) (r : Option (Result (Bor (List ℕ)) TooLong)) → IsNext old from r to
+    → to.at ≡ printed_to (step_at old).kind from.at
+printed_next old from to r p = p.at ∙ printed_by p.reads old p.last r from.at p.came p.handed
+
+next_index_unique : OneContent (λ l e. e.1.0.now.at) next.Post
+next_index_unique l input a b s t p q = same (printed_next _ _ _ a p) (printed_next _ _ _ b q)
+
+next_output_unique : OneContent (λ l e. e.1.0.now.buffer) next.Post
+next_output_unique l input a b s t p q = same p.buffer q.buffer
 
 is_skipped_unique : OneAnswer (λ l a. a) is_skipped.Post
 is_skipped_unique l input a b s t = same

@@ -2,6 +2,9 @@
 //
 // A line of up to 65,535 bytes is handed out where it stands in the buffer. A longer one is dropped as it comes, and answered once,
 // as `TooLong`, where it ends.
+//
+// A program goes from line to line by `next`. One that decides for itself when to read goes by what `next` does: `step` says what is at
+// hand, `line` has its bytes, and `read` reads once where more is to be read.
 ghost use Rattle.std.specs.Prelude.{◌≡◌, ◌+◌, ◌≤◌, ◌<◌, length, ◌==◌, position, replicate, MatchOption};
 ghost use Rattle.text.specs.Buffer.{size};
 ghost use Rattle.text.specs.Bytes.{index_of, slice};
@@ -33,7 +36,8 @@ pub struct Lines {
     pub over: Option<TooLong>,
 }
 
-enum AtHand {
+#[derive(Clone, Copy)]
+pub enum AtHand {
     // A line is, buffer[start..end], or ends here that was too long.
     Whole(Result<(usize, usize), TooLong>),
     // There is no whole line in the buffer: more is to be read.
@@ -64,38 +68,8 @@ impl Lines {
         Some(self.line(found))
     }
 
-    // The line that was found.
-    fn line(&self, found: Result<(usize, usize), TooLong>) -> Line<'_>
-        ensures { IsLine self.now.window.buffer found result }
-    {
-        match found {
-            Ok((start, end)) => Ok(part(&self.window.buffer, start, end)),
-            Err(long) => Err(long),
-        }
-    }
-
-    // Where it stands.
-    fn find(&mut self, out: &mut Printer) -> Option<Result<(usize, usize), TooLong>>
-        ensures { Found self.old out.old result self.new out.new }
-    {
-        for _reads in 0..u64::MAX {
-            match self.step() {
-                AtHand::Whole(line) => return Some(line),
-                AtHand::Part => {
-                    out.flush();
-                    self.refill();
-                }
-                AtHand::Nothing => {
-                    out.flush();
-                    return None;
-                }
-            }
-        }
-        None
-    }
-
     // What is at hand, which is then behind. The newline is no part of a line, and the last line may lack one.
-    fn step(&mut self) -> AtHand
+    pub fn step(&mut self) -> AtHand
         ensures at_hand { IsAtHand self.old result self.new }
         ensures gone_on { GoneOn self.old self.new }
     {
@@ -114,6 +88,44 @@ impl Lines {
             Some(long) => AtHand::Whole(Err(long)),
             None => AtHand::Whole(Ok((from, end))),
         }
+    }
+
+    // The line that a step found.
+    pub fn line(&self, found: Result<(usize, usize), TooLong>) -> Line<'_>
+        ensures { IsLine self.now.window.buffer found result }
+    {
+        match found {
+            Ok((start, end)) => Ok(part(&self.window.buffer, start, end)),
+            Err(long) => Err(long),
+        }
+    }
+
+    // Reads once, where a step asks for more, which may wait. What was answered is printed before it.
+    pub fn read(&mut self, out: &mut Printer)
+        ensures refilled { Refilled self.old.window.buffer (input_of self.old) self.new.window.buffer (input_of self.new) }
+        ensures over { self.new.over ≡ long_of self.old }
+        ensures at { out.new.at ≡ 0 }
+        ensures buffer { out.new.buffer ≡ out.old.buffer }
+    {
+        out.flush();
+        self.refill();
+    }
+
+    // Where it stands.
+    fn find(&mut self, out: &mut Printer) -> Option<Result<(usize, usize), TooLong>>
+        ensures { Found self.old out.old result self.new out.new }
+    {
+        for _reads in 0..u64::MAX {
+            match self.step() {
+                AtHand::Whole(line) => return Some(line),
+                AtHand::Part => self.read(out),
+                AtHand::Nothing => {
+                    out.flush();
+                    return None;
+                }
+            }
+        }
+        None
     }
 
     // Reads once behind the unread bytes, of which those of a line that is too long are dropped. A read that fails counts as the
