@@ -5,7 +5,7 @@
 //
 // A program goes from line to line by `next`. One that decides for itself when to read goes by what `next` does: `step` says what is at
 // hand, `line` has its bytes, and `read` reads once where more is to be read.
-ghost use Rattle.std.specs.Prelude.{◌≡◌, ◌+◌, ◌≤◌, ◌<◌, length, ◌==◌, position, replicate, MatchOption};
+ghost use Rattle.std.specs.Prelude.{◌≡◌, ◌+◌, ◌≤◌, ◌<◌, length, ◌==◌, position, replicate, IfOk, MatchOption};
 ghost use Rattle.text.specs.Buffer.{size};
 ghost use Rattle.text.specs.Bytes.{index_of, slice};
 ghost use Rattle.text.specs.Input.{fresh, kept_in, Refilled};
@@ -65,7 +65,7 @@ impl Lines {
         ensures* rests { sem 𝓛 (RestsAs self.entry out.old result out.new) }
     {
         let found = self.find(out)?;
-        Some(self.line(found))
+        Some(self.line_within(found))
     }
 
     // What is at hand, which is then behind. The newline is no part of a line, and the last line may lack one.
@@ -73,20 +73,31 @@ impl Lines {
         ensures at_hand { IsAtHand self.old result self.new }
         ensures gone_on { GoneOn self.old self.new }
     {
-        let to = self.window.to.min(SIZE);
-        let from = self.window.from.min(to);
-        self.window.from = from;
-        self.window.to = to;
+        // At every line: what stays as it is is not stored.
+        if SIZE < self.window.to {
+            self.window.to = SIZE;
+        }
+        let from = self.window.from;
+        let to = self.window.to;
         let (end, next) = match newline(&self.window.buffer, from, to) {
             Some(at) => (at, at + 1),
-            None if !self.window.ended => return AtHand::Part,
+            None if !self.window.ended => {
+                self.window.from = from.min(to);
+                return AtHand::Part;
+            }
             None if from < to || self.over.is_some() => (to, to),
-            None => return AtHand::Nothing,
+            None => {
+                self.window.from = to;
+                return AtHand::Nothing;
+            }
         };
         self.window.from = next;
-        match self.over.take() {
-            Some(long) => AtHand::Whole(Err(long)),
+        match self.over {
             None => AtHand::Whole(Ok((from, end))),
+            Some(long) => {
+                self.over = None;
+                AtHand::Whole(Err(long))
+            }
         }
     }
 
@@ -109,6 +120,17 @@ impl Lines {
     {
         out.flush();
         self.refill();
+    }
+
+    // The line that was found, where the buffer has it: `line` cuts to the buffer, which takes time at every line.
+    fn line_within(&self, found: Result<(usize, usize), TooLong>) -> Line<'_>
+        requires within { IfOk found (λ p. (p.0 ≤ p.1) × (p.1 ≤ size)) }
+        ensures { IsLine self.now.window.buffer found result }
+    {
+        match found {
+            Ok((start, end)) => Ok(&self.window.buffer[start..end]),
+            Err(long) => Err(long),
+        }
     }
 
     // Where it stands.
@@ -160,9 +182,11 @@ impl Lines {
 
 // Where the first newline stands from one index up to another.
 fn newline(s: &[u8], from: usize, to: usize) -> Option<usize>
-    requires ordered { from ≤ to }
-    requires within { to ≤ length s.now }
+    requires { to ≤ length s.now }
     ensures { MatchOption result (to ≤ from + index_of 10 (slice from to s.now)) (λ at. (at ≡ from + index_of 10 (slice from to s.now)) × (at < to)) }
 {
+    if to <= from {
+        return None;
+    }
     Some(from + first(&s[from..to], b'\n')?)
 }

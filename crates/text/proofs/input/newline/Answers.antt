@@ -14,7 +14,7 @@ returns-in_err-first c =
     let part = take (a.to - a.from) (drop a.from a.s.now) in
     let long : length part ≡ a.to - a.from = length-take-le (a.to - a.from) (drop a.from a.s.now) (simp length-drop (omega arith)) in
     let h = not_found 10 part (sym c.in_err-first.ensures) in
-    rw (c.from_residual.ensures, part_of a.s.now a.from a.to c.requires.ordered c.requires.within) (omega (arith, h, long))
+    rw (c.from_residual.ensures, part_of a.s.now a.from a.to (omega arith) c.requires) (omega (arith, h, long))
 
 pub returns : goal.returns
 returns c =
@@ -22,4 +22,4 @@ returns c =
     let part = take (a.to - a.from) (drop a.from a.s.now) in
     let long : length part ≡ a.to - a.from = length-take-le (a.to - a.from) (drop a.from a.s.now) (simp length-drop (omega arith)) in
     let h = found_at 10 part c.in_ok-first.field-0 (sym c.in_ok-first.ensures) in
-    rw (part_of a.s.now a.from a.to c.requires.ordered c.requires.within) (omega (arith, h.0), omega (arith, h.1, long))
+    rw (part_of a.s.now a.from a.to (omega arith) c.requires) (omega (arith, h.0), omega (arith, h.1, long))

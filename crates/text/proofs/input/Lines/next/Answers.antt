@@ -9,4 +9,4 @@ returns-in_err-found c =
 
 pub returns : goal.returns
 returns c =
-    let left = handed c.in_ok-found.ensures c.line.ensures in ((refl, (λ _. tt), left), record { next = left.next; rests = tt })
+    let left = handed c.in_ok-found.ensures c.line_within.ensures in ((refl, (λ _. tt), left), record { next = left.next; rests = tt })
