@@ -40,16 +40,24 @@ impl<'a> Order<'a> {
     }
 }
 
-/// Most functions are a few lines. For speed each stands in its caller, which saves the copies between them; for size, and
-/// where a compiler does not know the word, that is left to it.
+/// Most functions are a few lines. For speed each stands in its caller, which saves the copies between them; for size only the
+/// small ones do, whose call is longer than they are; where a compiler does not know the word, that is left to it.
 const STATIC: &str =
-    "/* Where speed is asked for, each function stands in its caller: that saves the copies between them. */
-#if defined __GNUC__ && defined __OPTIMIZE__ && !defined __OPTIMIZE_SIZE__
-#define KD_STATIC static inline __attribute__((always_inline))
+    "/* Where speed is asked for, each function stands in its caller: that saves the copies between them. Where size is, a small one does. */
+#if defined __GNUC__ && defined __OPTIMIZE__
+#define KD_SMALL static inline __attribute__((always_inline))
 #else
+#define KD_SMALL static
+#endif
+#if defined __OPTIMIZE_SIZE__
 #define KD_STATIC static
+#else
+#define KD_STATIC KD_SMALL
 #endif
 ";
+
+/// So many lines, with what closes it, has the body of a small function at most.
+const SMALL: usize = 20;
 
 /// Where the program has enums with fields.
 const WHOLE: &str = "/* A value is copied whole, also the fields of a variant that it is not: gcc can't tell that these are not looked at. */
@@ -71,6 +79,14 @@ fn text(types: &mut CTypes, function: &Function) -> Answer<String> {
     Ok(if gotos(&other) < gotos(&plain) { other } else { plain })
 }
 
+/// A small function is one that is not offered and has few lines.
+fn sized(text: String) -> String {
+    match text.split_once("\n{\n") {
+        Some((_, body)) if body.lines().count() <= SMALL => text.replacen("\nKD_STATIC ", "\nKD_SMALL ", 1),
+        _ => text,
+    }
+}
+
 pub fn file(program: &Program, header: &Header, exports: Exports, head: &str, include: &str) -> Answer<String> {
     let mut order = Order { program, seen: BTreeMap::new(), list: Vec::new() };
     exports.functions.iter().try_for_each(|name| order.reach(name, 0))?;
@@ -87,7 +103,7 @@ pub fn file(program: &Program, header: &Header, exports: Exports, head: &str, in
     types.structs_agree()?;
     let mut functions = Vec::new();
     for name in &order.list {
-        functions.push(text(&mut types, &program.functions[*name]).map_err(|error| error.within(name))?);
+        functions.push(sized(text(&mut types, &program.functions[*name]).map_err(|error| error.within(name))?));
     }
     let declarations = types.declarations()?;
     let assertions = types.assertions()?;

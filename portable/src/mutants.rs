@@ -67,7 +67,7 @@ fn is_idle_in_mir(text: &str, change: &Change) -> bool {
 
 /// The changes of a C file, after its declarations.
 pub fn of_c(text: &str) -> Vec<Change> {
-    let from = text.find("\nKD_STATIC ").unwrap_or(0);
+    let from = ["\nKD_STATIC ", "\nKD_SMALL "].iter().filter_map(|word| text.find(word)).min().unwrap_or(0);
     let mut found = swaps(
         text,
         from,
