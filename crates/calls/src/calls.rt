@@ -1,4 +1,6 @@
 // A line each for the five calls: the readers answer None where a line can't be read, and then nothing is printed or done.
+ghost use Rattle.std.specs.Prelude.{◌≡◌, IfNone};
+
 use crate::lent;
 use module::Module;
 use module::tally::reply_of;
@@ -13,7 +15,9 @@ use wire::reply::Reply;
 const PAYLOAD: usize = 64;
 
 // setup STREAM ROLE CLASS RD DC RA DD
-pub(crate) fn setup(module: &mut Module, words: &mut Words<'_>, out: &mut Printer) -> Option<()> {
+pub(crate) fn setup(module: &mut Module, words: &mut Words<'_>, out: &mut Printer) -> Option<()>
+    ensures unread { IfNone result (module.new ≡ module.old) }
+{
     let (stream, settings) = words.settings()?;
     words.end()?;
     let answer = module.set_up(stream, settings);
@@ -22,7 +26,9 @@ pub(crate) fn setup(module: &mut Module, words: &mut Words<'_>, out: &mut Printe
 }
 
 // request STREAM PAYLOAD
-pub(crate) fn request(module: &mut Module, words: &mut Words<'_>, out: &mut Printer) -> Option<()> {
+pub(crate) fn request(module: &mut Module, words: &mut Words<'_>, out: &mut Printer) -> Option<()>
+    ensures unread { IfNone result (module.new ≡ module.old) }
+{
     let mut payload = [0; PAYLOAD];
     let stream = words.number(u32::MAX)?;
     let len = words.payload(&mut payload)?;
@@ -33,7 +39,9 @@ pub(crate) fn request(module: &mut Module, words: &mut Words<'_>, out: &mut Prin
 }
 
 // hear IDENT DLC PAYLOAD OUT: REPLY WRITTEN OUTPUT TOLD
-pub(crate) fn hear(module: &mut Module, words: &mut Words<'_>, out: &mut Printer) -> Option<()> {
+pub(crate) fn hear(module: &mut Module, words: &mut Words<'_>, out: &mut Printer) -> Option<()>
+    ensures unread { IfNone result (module.new ≡ module.old) }
+{
     let mut payload = [0; PAYLOAD];
     let id = words.number(u32::MAX)?;
     let dlc = words.number(u8::MAX)?;
@@ -55,7 +63,9 @@ pub(crate) fn hear(module: &mut Module, words: &mut Words<'_>, out: &mut Printer
 }
 
 // tick OUT: REPLY WRITTEN RECORDS clean|dirty DROPPED DELIVERED
-pub(crate) fn tick(module: &mut Module, words: &mut Words<'_>, out: &mut Printer) -> Option<()> {
+pub(crate) fn tick(module: &mut Module, words: &mut Words<'_>, out: &mut Printer) -> Option<()>
+    ensures unread { IfNone result (module.new ≡ module.old) }
+{
     let size = words.number(lent::MOST)?;
     words.end()?;
     let mut output = lent::FILLED;
@@ -78,7 +88,9 @@ pub(crate) fn tick(module: &mut Module, words: &mut Words<'_>, out: &mut Printer
 }
 
 // next OUT: REPLY IDENT LENGTH OUTPUT
-pub(crate) fn next(module: &mut Module, words: &mut Words<'_>, out: &mut Printer) -> Option<()> {
+pub(crate) fn next(module: &mut Module, words: &mut Words<'_>, out: &mut Printer) -> Option<()>
+    ensures unread { IfNone result (module.new ≡ module.old) }
+{
     let size = words.number(lent::MOST)?;
     words.end()?;
     let mut output = lent::FILLED;

@@ -1,4 +1,6 @@
 // A line is answered by what its first word names. What is no call stands here: the fresh node, many ticks, the tally.
+ghost use Rattle.std.specs.Prelude.{◌≡◌, IfNone};
+
 use crate::calls;
 use module::Module;
 use node::Node;
@@ -11,7 +13,9 @@ use text::words::Words;
 const TICKS: u64 = 65536;
 
 // Answers a line. None, with nothing done, where it can't be read.
-pub(crate) fn answer(module: &mut Module, line: Line<'_>, out: &mut Printer) -> Option<()> {
+pub(crate) fn answer(module: &mut Module, line: Line<'_>, out: &mut Printer) -> Option<()>
+    ensures unread { IfNone result (module.new ≡ module.old) }
+{
     let mut words = Words::of(line.ok()?);
     match words.word() {
         b"tick" => calls::tick(module, &mut words, out),
@@ -27,7 +31,9 @@ pub(crate) fn answer(module: &mut Module, line: Line<'_>, out: &mut Printer) -> 
 }
 
 // node
-fn fresh(module: &mut Module, words: &mut Words<'_>, out: &mut Printer) -> Option<()> {
+fn fresh(module: &mut Module, words: &mut Words<'_>, out: &mut Printer) -> Option<()>
+    ensures unread { IfNone result (module.new ≡ module.old) }
+{
     words.end()?;
     *module = Module::fresh();
     out.put(b"node");
@@ -35,7 +41,9 @@ fn fresh(module: &mut Module, words: &mut Words<'_>, out: &mut Printer) -> Optio
 }
 
 // ticks N: the counter, behind `K RECORDS ` of each tick that wrote some
-fn ticks(module: &mut Module, words: &mut Words<'_>, out: &mut Printer) -> Option<()> {
+fn ticks(module: &mut Module, words: &mut Words<'_>, out: &mut Printer) -> Option<()>
+    ensures unread { IfNone result (module.new ≡ module.old) }
+{
     let n = words.number(TICKS)?;
     words.end()?;
     for k in 1..=n {
@@ -53,7 +61,9 @@ fn ticks(module: &mut Module, words: &mut Words<'_>, out: &mut Printer) -> Optio
 }
 
 // tally: the counts, with a space between them
-fn tally(module: &mut Module, words: &mut Words<'_>, out: &mut Printer) -> Option<()> {
+fn tally(module: &mut Module, words: &mut Words<'_>, out: &mut Printer) -> Option<()>
+    ensures unread { IfNone result (module.new ≡ module.old) }
+{
     words.end()?;
     for (i, count) in module.tally.counts.iter().enumerate() {
         if i > 0 {

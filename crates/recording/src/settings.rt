@@ -1,18 +1,20 @@
 // The list of settings, and the lines that fill it.
+ghost use Rattle.std.specs.Prelude.{◌≡◌, IfNone};
+
 use text::output::Printer;
 use text::words::Words;
 use wire::ids::Stream;
 use wire::settings::Settings;
 
 #[derive(Clone, Copy)]
-pub(crate) struct Entry {
+pub struct Entry {
     pub stream: Stream,
     pub settings: Settings,
 }
 
 // Kept as an array and a count: the memory is fixed.
 #[derive(Clone, Copy)]
-pub(crate) struct List {
+pub struct List {
     // The first len of them.
     pub entries: [Entry; List::MOST],
     pub len: usize,
@@ -30,16 +32,23 @@ impl List {
     };
 
     // Puts an entry behind the others and answers its index; None, with nothing changed, where there is no room.
-    fn push(&mut self, entry: Entry) -> Option<usize> {
+    fn push(&mut self, entry: Entry) -> Option<usize>
+        ensures unread { IfNone result (self.new ≡ self.old) }
+    {
         let at = self.len;
-        *self.entries.get_mut(at)? = entry;
+        if at >= List::MOST {
+            return None;
+        }
+        self.entries[at] = entry;
         self.len = at + 1;
         Some(at)
     }
 }
 
 // settings
-pub(crate) fn settings(list: &mut List, words: &mut Words<'_>, out: &mut Printer) -> Option<()> {
+pub(crate) fn settings(list: &mut List, words: &mut Words<'_>, out: &mut Printer) -> Option<()>
+    ensures unread { IfNone result (list.new ≡ list.old) }
+{
     words.end()?;
     *list = List::EMPTY;
     out.put(b"settings");
@@ -47,7 +56,9 @@ pub(crate) fn settings(list: &mut List, words: &mut Words<'_>, out: &mut Printer
 }
 
 // setting STREAM ROLE CLASS RD DC RA DD
-pub(crate) fn setting(list: &mut List, words: &mut Words<'_>, out: &mut Printer) -> Option<()> {
+pub(crate) fn setting(list: &mut List, words: &mut Words<'_>, out: &mut Printer) -> Option<()>
+    ensures unread { IfNone result (list.new ≡ list.old) }
+{
     let (stream, settings) = words.settings()?;
     words.end()?;
     let at = list.push(Entry { stream, settings })?;

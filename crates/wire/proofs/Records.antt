@@ -53,7 +53,7 @@ cut_length s payload = rw (record_length_law s (take max_payload payload), cut_p
 abbrev pub header : Stream → ℕ → List ℕ
 header s n = (6 + n) ∷ 0 ∷ 1 ∷ 0 ∷ s.0 % 256 ∷ s.0 / 256 % 256 ∷ s.0 / 65536 % 256 ∷ s.0 / 16777216 % 256 ∷ []
 
-header_and_payload : (s : Stream) (payload : List ℕ) → length payload ≤ 8 → record_of s payload ≡ header s (length payload) ++ payload
+pub header_and_payload : (s : Stream) (payload : List ℕ) → length payload ≤ 8 → record_of s payload ≡ header s (length payload) ++ payload
 unfolding record_of
 header_and_payload s payload small =
     let low : (6 + length payload) % 256 ≡ 6 + length payload = omega arith in
