@@ -2,7 +2,7 @@
  * Kosmydore 6.0.0: the node in C99
  *
  * Made by `./kosmydore portable DIR` from the proved program of the crate `firmware`. Not to be edited.
- *   program  sha256 24bbca3c0474a3501a95c4cddd2d1e8bfe1b7c474598f40da95a8fafd920462e
+ *   program  sha256 199f5788f9c819b41eefb8609b598489a2b78420c288102523a1f6d62b0ee1e3
  *   kit      rattle-kit-13f logic dac8208d650f15bf
  *
  * What this rests on. Proved is the program before its translation: every answer and every byte, for every input that
@@ -195,19 +195,6 @@ struct kd_Option_ref_Slot {
     uint8_t *of1;
 };
 
-/* core::ops::bounds::Bound<&u64> */
-struct kd_Bound_ref_u64 {
-    uint8_t tag;
-    uint8_t *of0;
-    uint8_t *of1;
-};
-
-/* (,)<u64,u64> */
-struct kd_tuple_u64_u64 {
-    uint64_t f0;
-    uint64_t f1;
-};
-
 /* The layout that the program counts on. Where one of these does not hold, the file is not compiled. */
 #define KD_ASSERT(name, holds) typedef char kd_assert_##name[(holds) ? 1 : -1]
 #define KD_SIZE(type, size) KD_ASSERT(size_of_##type, sizeof(struct type) == (size))
@@ -258,11 +245,16 @@ KD_FIELD(kosmydore_answered, reply, 1028, 4);
 #pragma GCC diagnostic ignored "-Wmaybe-uninitialized"
 #endif
 
-/* Where speed is asked for, each function stands in its caller: that saves the copies between them. */
-#if defined __GNUC__ && defined __OPTIMIZE__ && !defined __OPTIMIZE_SIZE__
-#define KD_STATIC static inline __attribute__((always_inline))
+/* Where speed is asked for, each function stands in its caller: that saves the copies between them. Where size is, a small one does. */
+#if defined __GNUC__ && defined __OPTIMIZE__
+#define KD_SMALL static inline __attribute__((always_inline))
 #else
+#define KD_SMALL static
+#endif
+#if defined __OPTIMIZE_SIZE__
 #define KD_STATIC static
+#else
+#define KD_STATIC KD_SMALL
 #endif
 
 /* wire::ids::Stream::join */
@@ -292,7 +284,7 @@ KD_STATIC struct kd_Result_BusId_Reply kd_wire_ids_Stream_join(uint32_t v1, uint
 }
 
 /* module::tally::reply_of<wire::ids::BusId> */
-KD_STATIC uint8_t kd_tally_reply_of_BusId(uint8_t *v1)
+KD_SMALL uint8_t kd_tally_reply_of_BusId(uint8_t *v1)
 {
     uint8_t v0;
     uint8_t v3;
@@ -395,7 +387,7 @@ KD_STATIC uint32_t kd_wire_reply_Reply_number(uint8_t v1)
 }
 
 /* firmware::answers::number_of<wire::ids::BusId> */
-KD_STATIC uint32_t kd_answers_number_of_BusId(uint8_t *v1)
+KD_SMALL uint32_t kd_answers_number_of_BusId(uint8_t *v1)
 {
     uint32_t v0;
 
@@ -468,7 +460,7 @@ uint32_t kosmydore_join(uint32_t stream, uint32_t code)
 }
 
 /* wire::ids::BusId::split */
-KD_STATIC struct kd_Result_tuple_Stream_u32_Reply kd_wire_ids_BusId_split(uint32_t v1)
+KD_SMALL struct kd_Result_tuple_Stream_u32_Reply kd_wire_ids_BusId_split(uint32_t v1)
 {
     struct kd_Result_tuple_Stream_u32_Reply v0;
 
@@ -491,7 +483,7 @@ KD_STATIC struct kd_Result_tuple_Stream_u32_Reply kd_wire_ids_BusId_split(uint32
 }
 
 /* module::tally::reply_of<(,)<wire::ids::Stream,u32>> */
-KD_STATIC uint8_t kd_tally_reply_of_tuple_Stream_u32(uint8_t *v1)
+KD_SMALL uint8_t kd_tally_reply_of_tuple_Stream_u32(uint8_t *v1)
 {
     uint8_t v0;
     uint8_t v3;
@@ -513,7 +505,7 @@ KD_STATIC uint8_t kd_tally_reply_of_tuple_Stream_u32(uint8_t *v1)
 }
 
 /* firmware::answers::number_of<(,)<wire::ids::Stream,u32>> */
-KD_STATIC uint32_t kd_answers_number_of_tuple_Stream_u32(uint8_t *v1)
+KD_SMALL uint32_t kd_answers_number_of_tuple_Stream_u32(uint8_t *v1)
 {
     uint32_t v0;
 
@@ -608,7 +600,7 @@ uint32_t kosmydore_split_code(uint32_t id)
 }
 
 /* core::convert::U32FromU8::from */
-KD_STATIC uint32_t kd_core_convert_U32FromU8_from(uint8_t v1)
+KD_SMALL uint32_t kd_core_convert_U32FromU8_from(uint8_t v1)
 {
     uint32_t v0;
 
@@ -739,7 +731,7 @@ uint32_t kosmydore_settings_reply(uint32_t stream, uint32_t role, uint32_t class
 }
 
 /* wire::delivered::record_length */
-KD_STATIC struct kd_Result_u32_Reply kd_wire_delivered_record_length(uint32_t v1)
+KD_SMALL struct kd_Result_u32_Reply kd_wire_delivered_record_length(uint32_t v1)
 {
     struct kd_Result_u32_Reply v0;
 
@@ -759,7 +751,7 @@ KD_STATIC struct kd_Result_u32_Reply kd_wire_delivered_record_length(uint32_t v1
 }
 
 /* module::tally::reply_of<u32> */
-KD_STATIC uint8_t kd_tally_reply_of_u32(uint8_t *v1)
+KD_SMALL uint8_t kd_tally_reply_of_u32(uint8_t *v1)
 {
     uint8_t v0;
     uint8_t v3;
@@ -781,7 +773,7 @@ KD_STATIC uint8_t kd_tally_reply_of_u32(uint8_t *v1)
 }
 
 /* firmware::answers::number_of<u32> */
-KD_STATIC uint32_t kd_answers_number_of_u32(uint8_t *v1)
+KD_SMALL uint32_t kd_answers_number_of_u32(uint8_t *v1)
 {
     uint32_t v0;
 
@@ -850,7 +842,7 @@ uint32_t kosmydore_record_length(uint32_t payload_length)
 }
 
 /* node_bytes::layout::is_node */
-KD_STATIC bool kd_node_bytes_layout_is_node(uint64_t v1)
+KD_SMALL bool kd_node_bytes_layout_is_node(uint64_t v1)
 {
     bool v0;
 
@@ -859,7 +851,7 @@ KD_STATIC bool kd_node_bytes_layout_is_node(uint64_t v1)
 }
 
 /* core::clone::U8Clone::clone */
-KD_STATIC struct kd_Result_u8_AllocError kd_core_clone_U8Clone_clone(uint8_t *v1)
+KD_SMALL struct kd_Result_u8_AllocError kd_core_clone_U8Clone_clone(uint8_t *v1)
 {
     struct kd_Result_u8_AllocError v0;
 
@@ -870,7 +862,7 @@ KD_STATIC struct kd_Result_u8_AllocError kd_core_clone_U8Clone_clone(uint8_t *v1
 }
 
 /* core::clone::surely<u8> */
-KD_STATIC uint8_t kd_clone_surely_u8(uint8_t *v1)
+KD_SMALL uint8_t kd_clone_surely_u8(uint8_t *v1)
 {
     uint8_t v0;
 
@@ -921,7 +913,7 @@ KD_STATIC void kd_slice_T_fill_u8(struct kd_slice v1, uint8_t v2)
 }
 
 /* node_bytes::fresh::clear */
-KD_STATIC void kd_node_bytes_fresh_clear(struct kd_slice v1)
+KD_SMALL void kd_node_bytes_fresh_clear(struct kd_slice v1)
 {
     uint8_t *v3 = v1.at;
     struct kd_slice v4;
@@ -932,7 +924,7 @@ KD_STATIC void kd_node_bytes_fresh_clear(struct kd_slice v1)
 }
 
 /* node_bytes::fresh::fresh */
-KD_STATIC struct kd_Result_unit_Reply kd_node_bytes_fresh_fresh(struct kd_slice v1)
+KD_SMALL struct kd_Result_unit_Reply kd_node_bytes_fresh_fresh(struct kd_slice v1)
 {
     struct kd_Result_unit_Reply v0;
 
@@ -954,7 +946,7 @@ KD_STATIC struct kd_Result_unit_Reply kd_node_bytes_fresh_fresh(struct kd_slice 
 }
 
 /* module::tally::reply_of<()> */
-KD_STATIC uint8_t kd_tally_reply_of_unit(uint8_t *v1)
+KD_SMALL uint8_t kd_tally_reply_of_unit(uint8_t *v1)
 {
     uint8_t v0;
     uint8_t v3;
@@ -976,7 +968,7 @@ KD_STATIC uint8_t kd_tally_reply_of_unit(uint8_t *v1)
 }
 
 /* firmware::answers::number_of<()> */
-KD_STATIC uint32_t kd_answers_number_of_unit(uint8_t *v1)
+KD_SMALL uint32_t kd_answers_number_of_unit(uint8_t *v1)
 {
     uint32_t v0;
 
@@ -1004,7 +996,7 @@ uint32_t kosmydore_module_fresh(uint8_t *node, size_t node_length)
 }
 
 /* wire::settings::Settings::of */
-KD_STATIC struct kosmydore_slot_settings kd_wire_settings_Settings_of(uint8_t v1, uint8_t v2, uint16_t v3,
+KD_SMALL struct kosmydore_slot_settings kd_wire_settings_Settings_of(uint8_t v1, uint8_t v2, uint16_t v3,
     uint16_t v4, uint16_t v5, uint16_t v6)
 {
     struct kosmydore_slot_settings v0;
@@ -1019,7 +1011,7 @@ KD_STATIC struct kosmydore_slot_settings kd_wire_settings_Settings_of(uint8_t v1
 }
 
 /* wire::settings::Settings::of_plain */
-KD_STATIC struct kosmydore_slot_settings kd_wire_settings_Settings_of_plain(uint8_t v1)
+KD_SMALL struct kosmydore_slot_settings kd_wire_settings_Settings_of_plain(uint8_t v1)
 {
     struct kosmydore_slot_settings v0;
 
@@ -1059,7 +1051,7 @@ KD_STATIC struct kosmydore_slot_settings kd_firmware_judged_settings_of(struct k
 }
 
 /* core::convert::AnyInto::into<u8,u32> */
-KD_STATIC uint32_t kd_AnyInto_into_u8_u32(uint8_t v1)
+KD_SMALL uint32_t kd_AnyInto_into_u8_u32(uint8_t v1)
 {
     uint32_t v0;
 
@@ -1069,7 +1061,7 @@ KD_STATIC uint32_t kd_AnyInto_into_u8_u32(uint8_t v1)
 }
 
 /* core::convert::U32FromU16::from */
-KD_STATIC uint32_t kd_core_convert_U32FromU16_from(uint16_t v1)
+KD_SMALL uint32_t kd_core_convert_U32FromU16_from(uint16_t v1)
 {
     uint32_t v0;
 
@@ -1078,7 +1070,7 @@ KD_STATIC uint32_t kd_core_convert_U32FromU16_from(uint16_t v1)
 }
 
 /* core::convert::AnyInto::into<u16,u32> */
-KD_STATIC uint32_t kd_AnyInto_into_u16_u32(uint16_t v1)
+KD_SMALL uint32_t kd_AnyInto_into_u16_u32(uint16_t v1)
 {
     uint32_t v0;
 
@@ -1088,7 +1080,7 @@ KD_STATIC uint32_t kd_AnyInto_into_u16_u32(uint16_t v1)
 }
 
 /* wire::settings::Settings::legal */
-KD_STATIC bool kd_wire_settings_Settings_legal(struct kosmydore_slot_settings v1, uint32_t v2)
+KD_SMALL bool kd_wire_settings_Settings_legal(struct kosmydore_slot_settings v1, uint32_t v2)
 {
     bool v0;
 
@@ -1103,7 +1095,7 @@ KD_STATIC bool kd_wire_settings_Settings_legal(struct kosmydore_slot_settings v1
 }
 
 /* core::iter::steps::UsizeStep::below */
-KD_STATIC bool kd_core_iter_steps_UsizeStep_below(uint64_t v1, uint64_t v2)
+KD_SMALL bool kd_core_iter_steps_UsizeStep_below(uint64_t v1, uint64_t v2)
 {
     bool v0;
 
@@ -1112,7 +1104,7 @@ KD_STATIC bool kd_core_iter_steps_UsizeStep_below(uint64_t v1, uint64_t v2)
 }
 
 /* core::iter::steps::UsizeStep::forward */
-KD_STATIC uint64_t kd_core_iter_steps_UsizeStep_forward(uint64_t v1, uint64_t v2)
+KD_SMALL uint64_t kd_core_iter_steps_UsizeStep_forward(uint64_t v1, uint64_t v2)
 {
     (void)v2;
     uint64_t v0;
@@ -1122,7 +1114,7 @@ KD_STATIC uint64_t kd_core_iter_steps_UsizeStep_forward(uint64_t v1, uint64_t v2
 }
 
 /* core::iter::ranges::RangeIterator::next<u64> */
-KD_STATIC struct kd_Option_u64 kd_RangeIterator_next_u64(uint8_t *v1)
+KD_SMALL struct kd_Option_u64 kd_RangeIterator_next_u64(uint8_t *v1)
 {
     struct kd_Option_u64 v0;
     struct kd_Option_u64 v6;
@@ -1141,6 +1133,68 @@ KD_STATIC struct kd_Option_u64 kd_RangeIterator_next_u64(uint8_t *v1)
         v6.tag = 0u;
     }
     v0 = v6;
+    return v0;
+}
+
+/* core::int::usize::min */
+KD_SMALL uint64_t kd_core_int_usize_min(uint64_t v1, uint64_t v2)
+{
+    uint64_t v0;
+    uint64_t v4;
+
+    bool v3 = v2 < v1;
+    if (v3) {
+        v4 = v2;
+    } else {
+        v4 = v1;
+    }
+    v0 = v4;
+    return v0;
+}
+
+/* wire::copying::copy */
+KD_SMALL void kd_wire_copying_copy(struct kd_slice v1, struct kd_slice v2)
+{
+    uint64_t v3 = UINT64_C(0);
+    uint64_t v5 = (uint64_t)v1.length;
+    uint64_t v6 = (uint64_t)v2.length;
+    uint64_t v4 = kd_core_int_usize_min(v5, v6);
+    for (;;) {
+        bool v7 = v3 < v4;
+        if (!v7) {
+            break;
+        }
+        uint8_t *v8 = v2.at + (size_t)v3;
+        uint8_t v9 = *v8;
+        uint8_t *v10 = v1.at + (size_t)v3;
+        *v10 = v9;
+        v3 = v3 + UINT64_C(1);
+    }
+    return;
+}
+
+/* node_bytes::numbers::row_at<4> */
+KD_STATIC struct kd_u8_4 kd_numbers_row_at_4(struct kd_slice v1, uint64_t v2)
+{
+    struct kd_u8_4 v0;
+    struct kd_u8_4 v3;
+
+    for (size_t t1 = 0; t1 < 4; t1++) {
+        v3.at[t1] = 0u;
+    }
+    uint8_t *v5 = (uint8_t *)&v3;
+    struct kd_slice v6;
+    v6.at = v5;
+    v6.length = (size_t)UINT64_C(4);
+    uint64_t v7 = UINT64_C(4) + v2;
+    uint8_t *v8 = v1.at + (size_t)v2;
+    uint64_t v9 = v7 - v2;
+    uint8_t *v10 = v8;
+    struct kd_slice v11;
+    v11.at = v10;
+    v11.length = (size_t)v9;
+    kd_wire_copying_copy(v6, v11);
+    v0 = v3;
     return v0;
 }
 
@@ -1177,32 +1231,17 @@ KD_STATIC uint32_t kd_core_int_u32_from_le_bytes(struct kd_u8_4 v1)
 }
 
 /* node_bytes::numbers::four_at */
-KD_STATIC uint32_t kd_node_bytes_numbers_four_at(struct kd_slice v1, uint64_t v2)
+KD_SMALL uint32_t kd_node_bytes_numbers_four_at(struct kd_slice v1, uint64_t v2)
 {
     uint32_t v0;
 
-    uint8_t *v3 = v1.at + (size_t)v2;
-    uint8_t v4 = *v3;
-    uint64_t v5 = UINT64_C(1) + v2;
-    uint8_t *v6 = v1.at + (size_t)v5;
-    uint8_t v7 = *v6;
-    uint64_t v8 = UINT64_C(2) + v2;
-    uint8_t *v9 = v1.at + (size_t)v8;
-    uint8_t v10 = *v9;
-    uint64_t v11 = UINT64_C(3) + v2;
-    uint8_t *v12 = v1.at + (size_t)v11;
-    uint8_t v13 = *v12;
-    struct kd_u8_4 v14;
-    v14.at[0] = v4;
-    v14.at[1] = v7;
-    v14.at[2] = v10;
-    v14.at[3] = v13;
-    v0 = kd_core_int_u32_from_le_bytes(v14);
+    struct kd_u8_4 v3 = kd_numbers_row_at_4(v1, v2);
+    v0 = kd_core_int_u32_from_le_bytes(v3);
     return v0;
 }
 
 /* node_bytes::numbers::flag_at */
-KD_STATIC bool kd_node_bytes_numbers_flag_at(struct kd_slice v1, uint64_t v2)
+KD_SMALL bool kd_node_bytes_numbers_flag_at(struct kd_slice v1, uint64_t v2)
 {
     bool v0;
 
@@ -1213,7 +1252,7 @@ KD_STATIC bool kd_node_bytes_numbers_flag_at(struct kd_slice v1, uint64_t v2)
 }
 
 /* node_bytes::slots::of_at */
-KD_STATIC bool kd_node_bytes_slots_of_at(struct kd_slice v1, uint64_t v2, uint32_t v3)
+KD_SMALL bool kd_node_bytes_slots_of_at(struct kd_slice v1, uint64_t v2, uint32_t v3)
 {
     bool v0;
 
@@ -1231,7 +1270,7 @@ KD_STATIC bool kd_node_bytes_slots_of_at(struct kd_slice v1, uint64_t v2, uint32
 }
 
 /* node_bytes::finding::fn::find::find */
-KD_STATIC bool kd_node_bytes_finding_fn_find_find(uint8_t *v1, uint8_t *v2)
+KD_SMALL bool kd_node_bytes_finding_fn_find_find(uint8_t *v1, uint8_t *v2)
 {
     bool v0;
 
@@ -1244,7 +1283,7 @@ KD_STATIC bool kd_node_bytes_finding_fn_find_find(uint8_t *v1, uint8_t *v2)
 }
 
 /* node_bytes::finding::fn::find::find+FnMut::call_mut */
-KD_STATIC bool kd_node_bytes_finding_fn_find_find_FnMut_call_mut(uint8_t *v1, uint8_t *v2)
+KD_SMALL bool kd_node_bytes_finding_fn_find_find_FnMut_call_mut(uint8_t *v1, uint8_t *v2)
 {
     bool v0;
 
@@ -1316,7 +1355,7 @@ KD_STATIC struct kd_Option_u64 kd_node_bytes_finding_find(struct kd_slice v1, ui
 }
 
 /* core::option::Option::is_some<u64> */
-KD_STATIC bool kd_Option_is_some_u64(uint8_t *v1)
+KD_SMALL bool kd_Option_is_some_u64(uint8_t *v1)
 {
     bool v0;
     bool v2;
@@ -1337,7 +1376,7 @@ KD_STATIC bool kd_Option_is_some_u64(uint8_t *v1)
 }
 
 /* node_bytes::slots::free_at */
-KD_STATIC bool kd_node_bytes_slots_free_at(struct kd_slice v1, uint64_t v2)
+KD_SMALL bool kd_node_bytes_slots_free_at(struct kd_slice v1, uint64_t v2)
 {
     bool v0;
 
@@ -1349,7 +1388,7 @@ KD_STATIC bool kd_node_bytes_slots_free_at(struct kd_slice v1, uint64_t v2)
 }
 
 /* node_bytes::finding::fn::find_free::find */
-KD_STATIC bool kd_node_bytes_finding_fn_find_free_find(uint8_t *v1, uint8_t *v2)
+KD_SMALL bool kd_node_bytes_finding_fn_find_free_find(uint8_t *v1, uint8_t *v2)
 {
     bool v0;
 
@@ -1360,7 +1399,7 @@ KD_STATIC bool kd_node_bytes_finding_fn_find_free_find(uint8_t *v1, uint8_t *v2)
 }
 
 /* node_bytes::finding::fn::find_free::find+FnMut::call_mut */
-KD_STATIC bool kd_node_bytes_finding_fn_find_free_find_FnMut_call_mut(uint8_t *v1, uint8_t *v2)
+KD_SMALL bool kd_node_bytes_finding_fn_find_free_find_FnMut_call_mut(uint8_t *v1, uint8_t *v2)
 {
     bool v0;
 
@@ -1407,7 +1446,7 @@ KD_STATIC struct kd_Option_u64 kd_Iterator_find_Range_u64_u64_find_Self_ref_slic
 }
 
 /* node_bytes::finding::find_free */
-KD_STATIC struct kd_Option_u64 kd_node_bytes_finding_find_free(struct kd_slice v1)
+KD_SMALL struct kd_Option_u64 kd_node_bytes_finding_find_free(struct kd_slice v1)
 {
     struct kd_Option_u64 v0;
     struct kd_Range_u64 v3;
@@ -1483,7 +1522,7 @@ KD_STATIC struct kd_ControlFlow_ErrResidual_Reply_u64 kd_ResultTry_branch_u64_Re
 }
 
 /* core::convert::AnyFrom::from<wire::reply::Reply> */
-KD_STATIC uint8_t kd_AnyFrom_from_Reply(uint8_t v1)
+KD_SMALL uint8_t kd_AnyFrom_from_Reply(uint8_t v1)
 {
     uint8_t v0;
 
@@ -1492,7 +1531,7 @@ KD_STATIC uint8_t kd_AnyFrom_from_Reply(uint8_t v1)
 }
 
 /* core::result::ResultFromResidualErrResidual::from_residual<(),wire::reply::Reply,wire::reply::Reply> */
-KD_STATIC struct kd_Result_unit_Reply kd_ResultFromResidualErrResidual_from_residual_unit_Reply_Reply(uint8_t v1)
+KD_SMALL struct kd_Result_unit_Reply kd_ResultFromResidualErrResidual_from_residual_unit_Reply_Reply(uint8_t v1)
 {
     struct kd_Result_unit_Reply v0;
 
@@ -1504,7 +1543,7 @@ KD_STATIC struct kd_Result_unit_Reply kd_ResultFromResidualErrResidual_from_resi
 }
 
 /* node_bytes::slots::after_at */
-KD_STATIC bool kd_node_bytes_slots_after_at(struct kd_slice v1, uint64_t v2, uint32_t v3)
+KD_SMALL bool kd_node_bytes_slots_after_at(struct kd_slice v1, uint64_t v2, uint32_t v3)
 {
     bool v0;
 
@@ -1520,7 +1559,7 @@ KD_STATIC bool kd_node_bytes_slots_after_at(struct kd_slice v1, uint64_t v2, uin
 }
 
 /* node_bytes::finding::fn::find_place::find */
-KD_STATIC bool kd_node_bytes_finding_fn_find_place_find(uint8_t *v1, uint8_t *v2)
+KD_SMALL bool kd_node_bytes_finding_fn_find_place_find(uint8_t *v1, uint8_t *v2)
 {
     bool v0;
 
@@ -1533,7 +1572,7 @@ KD_STATIC bool kd_node_bytes_finding_fn_find_place_find(uint8_t *v1, uint8_t *v2
 }
 
 /* node_bytes::finding::fn::find_place::find+FnMut::call_mut */
-KD_STATIC bool kd_node_bytes_finding_fn_find_place_find_FnMut_call_mut(uint8_t *v1, uint8_t *v2)
+KD_SMALL bool kd_node_bytes_finding_fn_find_place_find_FnMut_call_mut(uint8_t *v1, uint8_t *v2)
 {
     bool v0;
 
@@ -1605,7 +1644,7 @@ KD_STATIC struct kd_Option_u64 kd_node_bytes_finding_find_place(struct kd_slice 
 }
 
 /* core::option::Option::unwrap_or<u64> */
-KD_STATIC uint64_t kd_Option_unwrap_or_u64(struct kd_Option_u64 v1, uint64_t v2)
+KD_SMALL uint64_t kd_Option_unwrap_or_u64(struct kd_Option_u64 v1, uint64_t v2)
 {
     uint64_t v0;
     uint64_t v4;
@@ -1628,15 +1667,8 @@ KD_STATIC uint64_t kd_Option_unwrap_or_u64(struct kd_Option_u64 v1, uint64_t v2)
     return v0;
 }
 
-/* core::slice::edits::slice+T::copy_from_slice<u8> */
-KD_STATIC void kd_slice_T_copy_from_slice_u8(struct kd_slice v1, struct kd_slice v2)
-{
-    memcpy(v1.at, v2.at, (size_t)(uint64_t)v2.length);
-    return;
-}
-
-/* node_bytes::numbers::eight_at */
-KD_STATIC struct kd_u8_8 kd_node_bytes_numbers_eight_at(struct kd_slice v1, uint64_t v2)
+/* node_bytes::numbers::row_at<8> */
+KD_STATIC struct kd_u8_8 kd_numbers_row_at_8(struct kd_slice v1, uint64_t v2)
 {
     struct kd_u8_8 v0;
     struct kd_u8_8 v3;
@@ -1655,13 +1687,22 @@ KD_STATIC struct kd_u8_8 kd_node_bytes_numbers_eight_at(struct kd_slice v1, uint
     struct kd_slice v11;
     v11.at = v10;
     v11.length = (size_t)v9;
-    kd_slice_T_copy_from_slice_u8(v6, v11);
+    kd_wire_copying_copy(v6, v11);
     v0 = v3;
     return v0;
 }
 
+/* node_bytes::numbers::eight_at */
+KD_SMALL struct kd_u8_8 kd_node_bytes_numbers_eight_at(struct kd_slice v1, uint64_t v2)
+{
+    struct kd_u8_8 v0;
+
+    v0 = kd_numbers_row_at_8(v1, v2);
+    return v0;
+}
+
 /* node_bytes::numbers::put_eight */
-KD_STATIC void kd_node_bytes_numbers_put_eight(struct kd_slice v1, uint64_t v2, struct kd_u8_8 v3)
+KD_SMALL void kd_node_bytes_numbers_put_eight(struct kd_slice v1, uint64_t v2, struct kd_u8_8 v3)
 {
     struct kd_u8_8 v4;
 
@@ -1677,7 +1718,7 @@ KD_STATIC void kd_node_bytes_numbers_put_eight(struct kd_slice v1, uint64_t v2, 
     struct kd_slice v12;
     v12.at = v11;
     v12.length = (size_t)UINT64_C(8);
-    kd_slice_T_copy_from_slice_u8(v10, v12);
+    kd_wire_copying_copy(v10, v12);
     return;
 }
 
@@ -1738,7 +1779,7 @@ KD_STATIC void kd_node_bytes_slots_copy_up(struct kd_slice v1, uint64_t v2)
 }
 
 /* node_bytes::set_up::move_up */
-KD_STATIC void kd_node_bytes_set_up_move_up(struct kd_slice v1, uint64_t v2, uint64_t v3)
+KD_SMALL void kd_node_bytes_set_up_move_up(struct kd_slice v1, uint64_t v2, uint64_t v3)
 {
     uint64_t v4 = v3;
     for (;;) {
@@ -1784,7 +1825,7 @@ KD_STATIC struct kosmydore_slot kd_node_slots_Slot_set_up(uint32_t v1, struct ko
 }
 
 /* core::int::u32::to_le_bytes */
-KD_STATIC struct kd_u8_4 kd_core_int_u32_to_le_bytes(uint32_t v1)
+KD_SMALL struct kd_u8_4 kd_core_int_u32_to_le_bytes(uint32_t v1)
 {
     struct kd_u8_4 v0;
 
@@ -1807,7 +1848,7 @@ KD_STATIC struct kd_u8_4 kd_core_int_u32_to_le_bytes(uint32_t v1)
 }
 
 /* core::int::u16::to_le_bytes */
-KD_STATIC struct kd_u8_2 kd_core_int_u16_to_le_bytes(uint16_t v1)
+KD_SMALL struct kd_u8_2 kd_core_int_u16_to_le_bytes(uint16_t v1)
 {
     struct kd_u8_2 v0;
 
@@ -1822,7 +1863,7 @@ KD_STATIC struct kd_u8_2 kd_core_int_u16_to_le_bytes(uint16_t v1)
 }
 
 /* core::convert::others::U8FromBool::from */
-KD_STATIC uint8_t kd_core_convert_others_U8FromBool_from(bool v1)
+KD_SMALL uint8_t kd_core_convert_others_U8FromBool_from(bool v1)
 {
     uint8_t v0;
 
@@ -1831,7 +1872,7 @@ KD_STATIC uint8_t kd_core_convert_others_U8FromBool_from(bool v1)
 }
 
 /* node_bytes::numbers::flag */
-KD_STATIC uint8_t kd_node_bytes_numbers_flag(bool v1)
+KD_SMALL uint8_t kd_node_bytes_numbers_flag(bool v1)
 {
     uint8_t v0;
 
@@ -1882,7 +1923,7 @@ KD_STATIC struct kd_u8_8 kd_node_bytes_slots_key_row(struct kosmydore_slot v1)
 }
 
 /* node_bytes::slots::state_row */
-KD_STATIC struct kd_u8_8 kd_node_bytes_slots_state_row(struct kosmydore_slot v1)
+KD_SMALL struct kd_u8_8 kd_node_bytes_slots_state_row(struct kosmydore_slot v1)
 {
     struct kd_u8_8 v0;
 
@@ -2102,7 +2143,7 @@ KD_STATIC struct kd_Option_u64 kd_module_tally_Tally_place_of(uint32_t v1)
 }
 
 /* core::int::u32::saturating_add */
-KD_STATIC uint32_t kd_core_int_u32_saturating_add(uint32_t v1, uint32_t v2)
+KD_SMALL uint32_t kd_core_int_u32_saturating_add(uint32_t v1, uint32_t v2)
 {
     uint32_t v0;
     uint32_t v5;
@@ -2154,7 +2195,7 @@ KD_STATIC bool kd_module_tally_count_in(struct kd_slice v1, uint32_t v2)
 }
 
 /* firmware::answers::counted<()> */
-KD_STATIC uint32_t kd_answers_counted_unit(struct kd_slice v1, uint8_t *v2)
+KD_SMALL uint32_t kd_answers_counted_unit(struct kd_slice v1, uint8_t *v2)
 {
     uint32_t v0;
 
@@ -2195,7 +2236,7 @@ uint32_t kosmydore_module_set_up(uint8_t *node, size_t node_length, uint32_t str
 }
 
 /* core::int::u32::min */
-KD_STATIC uint32_t kd_core_int_u32_min(uint32_t v1, uint32_t v2)
+KD_SMALL uint32_t kd_core_int_u32_min(uint32_t v1, uint32_t v2)
 {
     uint32_t v0;
     uint32_t v4;
@@ -2211,7 +2252,7 @@ KD_STATIC uint32_t kd_core_int_u32_min(uint32_t v1, uint32_t v2)
 }
 
 /* firmware::judged::dlc_of */
-KD_STATIC uint8_t kd_firmware_judged_dlc_of(uint32_t v1)
+KD_SMALL uint8_t kd_firmware_judged_dlc_of(uint32_t v1)
 {
     uint8_t v0;
 
@@ -2221,7 +2262,7 @@ KD_STATIC uint8_t kd_firmware_judged_dlc_of(uint32_t v1)
 }
 
 /* wire::ids::BusId::is_bare */
-KD_STATIC bool kd_wire_ids_BusId_is_bare(uint32_t v1)
+KD_SMALL bool kd_wire_ids_BusId_is_bare(uint32_t v1)
 {
     bool v0;
     bool v3;
@@ -2243,7 +2284,7 @@ KD_STATIC bool kd_wire_ids_BusId_is_bare(uint32_t v1)
 }
 
 /* core::convert::UsizeFromU8::from */
-KD_STATIC uint64_t kd_core_convert_UsizeFromU8_from(uint8_t v1)
+KD_SMALL uint64_t kd_core_convert_UsizeFromU8_from(uint8_t v1)
 {
     uint64_t v0;
 
@@ -2251,24 +2292,8 @@ KD_STATIC uint64_t kd_core_convert_UsizeFromU8_from(uint8_t v1)
     return v0;
 }
 
-/* core::int::usize::min */
-KD_STATIC uint64_t kd_core_int_usize_min(uint64_t v1, uint64_t v2)
-{
-    uint64_t v0;
-    uint64_t v4;
-
-    bool v3 = v2 < v1;
-    if (v3) {
-        v4 = v2;
-    } else {
-        v4 = v1;
-    }
-    v0 = v4;
-    return v0;
-}
-
 /* wire::frame::at_most_payload */
-KD_STATIC uint64_t kd_wire_frame_at_most_payload(uint64_t v1)
+KD_SMALL uint64_t kd_wire_frame_at_most_payload(uint64_t v1)
 {
     uint64_t v0;
 
@@ -2348,7 +2373,7 @@ KD_STATIC struct kd_ControlFlow_ErrResidual_Reply_unit kd_ResultTry_branch_unit_
 }
 
 /* core::result::ResultFromResidualErrResidual::from_residual<node::Heard,wire::reply::Reply,wire::reply::Reply> */
-KD_STATIC struct kd_Result_Heard_Reply kd_ResultFromResidualErrResidual_from_residual_Heard_R_d5df5c05(uint8_t v1)
+KD_SMALL struct kd_Result_Heard_Reply kd_ResultFromResidualErrResidual_from_residual_Heard_R_d5df5c05(uint8_t v1)
 {
     struct kd_Result_Heard_Reply v0;
 
@@ -2389,7 +2414,7 @@ KD_STATIC struct kd_ControlFlow_ErrResidual_Reply_tuple_Stream_u32 kd_ResultTry_
 }
 
 /* core::int::u16::from_le_bytes */
-KD_STATIC uint16_t kd_core_int_u16_from_le_bytes(struct kd_u8_2 v1)
+KD_SMALL uint16_t kd_core_int_u16_from_le_bytes(struct kd_u8_2 v1)
 {
     uint16_t v0;
     struct kd_u8_2 v2;
@@ -2409,7 +2434,7 @@ KD_STATIC uint16_t kd_core_int_u16_from_le_bytes(struct kd_u8_2 v1)
 }
 
 /* node_bytes::numbers::two_at */
-KD_STATIC uint16_t kd_node_bytes_numbers_two_at(struct kd_slice v1, uint64_t v2)
+KD_SMALL uint16_t kd_node_bytes_numbers_two_at(struct kd_slice v1, uint64_t v2)
 {
     uint16_t v0;
 
@@ -2426,7 +2451,7 @@ KD_STATIC uint16_t kd_node_bytes_numbers_two_at(struct kd_slice v1, uint64_t v2)
 }
 
 /* node_bytes::slots::settings_from */
-KD_STATIC struct kosmydore_slot_settings kd_node_bytes_slots_settings_from(struct kd_slice v1, uint64_t v2)
+KD_SMALL struct kosmydore_slot_settings kd_node_bytes_slots_settings_from(struct kd_slice v1, uint64_t v2)
 {
     struct kosmydore_slot_settings v0;
 
@@ -2449,7 +2474,7 @@ KD_STATIC struct kosmydore_slot_settings kd_node_bytes_slots_settings_from(struc
 }
 
 /* node_bytes::slots::message_from */
-KD_STATIC struct kosmydore_message kd_node_bytes_slots_message_from(struct kd_slice v1, uint64_t v2)
+KD_SMALL struct kosmydore_message kd_node_bytes_slots_message_from(struct kd_slice v1, uint64_t v2)
 {
     struct kosmydore_message v0;
 
@@ -2473,7 +2498,7 @@ KD_STATIC struct kosmydore_message kd_node_bytes_slots_message_from(struct kd_sl
 }
 
 /* node_bytes::slots::pending_from */
-KD_STATIC struct kosmydore_pending kd_node_bytes_slots_pending_from(struct kd_slice v1, uint64_t v2)
+KD_SMALL struct kosmydore_pending kd_node_bytes_slots_pending_from(struct kd_slice v1, uint64_t v2)
 {
     struct kosmydore_pending v0;
 
@@ -2490,7 +2515,7 @@ KD_STATIC struct kosmydore_pending kd_node_bytes_slots_pending_from(struct kd_sl
 }
 
 /* node_bytes::slots::slot_at */
-KD_STATIC struct kosmydore_slot kd_node_bytes_slots_slot_at(struct kd_slice v1, uint64_t v2)
+KD_SMALL struct kosmydore_slot kd_node_bytes_slots_slot_at(struct kd_slice v1, uint64_t v2)
 {
     struct kosmydore_slot v0;
 
@@ -2512,7 +2537,7 @@ KD_STATIC struct kosmydore_slot kd_node_bytes_slots_slot_at(struct kd_slice v1, 
 }
 
 /* node::slots::Slot::is_receiver */
-KD_STATIC bool kd_node_slots_Slot_is_receiver(struct kosmydore_slot v1)
+KD_SMALL bool kd_node_slots_Slot_is_receiver(struct kosmydore_slot v1)
 {
     bool v0;
 
@@ -2558,92 +2583,50 @@ KD_STATIC bool kd_wire_class_carries(uint8_t v1, uint32_t v2)
     return v0;
 }
 
-/* core::cmp::numbers::U8PartialEq::eq */
-KD_STATIC bool kd_core_cmp_numbers_U8PartialEq_eq(uint8_t *v1, uint8_t *v2)
-{
-    bool v0;
-
-    uint8_t v3 = *v1;
-    uint8_t v4 = *v2;
-    v0 = v3 == v4;
-    return v0;
-}
-
-/* core::cmp::slices::slices_equal<u8> */
-KD_STATIC bool kd_slices_slices_equal_u8(struct kd_slice v1, struct kd_slice v2)
-{
-    bool v0;
-
-    uint64_t v3 = (uint64_t)v1.length;
-    uint64_t v4 = (uint64_t)v2.length;
-    bool v5 = v3 != v4;
-    if (v5) {
-        v0 = false;
-        return v0;
-    }
-    v3 = UINT64_C(0);
-    for (;;) {
-        v5 = v3 < v4;
-        if (!v5) {
-            break;
-        }
-        uint64_t v6 = v3 * UINT64_C(1);
-        uint8_t *v7 = v1.at + (size_t)v6;
-        uint8_t *v8 = v7;
-        v6 = v3 * UINT64_C(1);
-        uint8_t *v9 = v2.at + (size_t)v6;
-        uint8_t *v10 = v9;
-        v5 = kd_core_cmp_numbers_U8PartialEq_eq(v8, v10);
-        if (!v5) {
-            v0 = false;
-            return v0;
-        }
-        v3 = v3 + UINT64_C(1);
-    }
-    v0 = true;
-    return v0;
-}
-
-/* core::cmp::slices::RefSlicePartialEq::eq<u8> */
-KD_STATIC bool kd_RefSlicePartialEq_eq_u8(uint8_t *v1, uint8_t *v2)
-{
-    bool v0;
-
-    struct kd_slice v3 = *(struct kd_slice *)(void *)v1;
-    struct kd_slice v4 = *(struct kd_slice *)(void *)v2;
-    v0 = kd_slices_slices_equal_u8(v3, v4);
-    return v0;
-}
-
 /* node::slots::Message::same */
 KD_STATIC bool kd_node_slots_Message_same(struct kosmydore_message v1, struct kd_slice v2)
 {
     bool v0;
     struct kosmydore_message v3;
-    struct kd_slice v4;
-    struct kd_slice v10;
 
     v3 = v1;
-    v4 = v2;
     uint8_t v6 = v3.length;
-    uint64_t v5 = kd_core_convert_UsizeFromU8_from(v6);
-    bool v7 = v5 <= UINT64_C(8);
-    if (v7) {
-        uint8_t *v8 = (uint8_t *)&v3.bytes;
-        struct kd_slice v9;
-        v9.at = v8;
-        v9.length = (size_t)v5;
-        v10 = v9;
-        uint8_t *v11 = (uint8_t *)&v10;
-        uint8_t *v12 = (uint8_t *)&v4;
-        v7 = kd_RefSlicePartialEq_eq_u8(v11, v12);
+    uint64_t v4 = kd_core_convert_UsizeFromU8_from(v6);
+    uint64_t v7 = (uint64_t)v2.length;
+    bool v8 = v7 != v4;
+    if (v8) {
+        v0 = false;
+        return v0;
     }
-    v0 = v7;
+    v8 = UINT64_C(8) < v4;
+    if (v8) {
+        v0 = false;
+        return v0;
+    }
+    uint64_t v5 = UINT64_C(0);
+    for (;;) {
+        bool v9 = v5 < v4;
+        if (!v9) {
+            break;
+        }
+        uint8_t *v10 = (uint8_t *)&v3.bytes;
+        uint8_t *v11 = v10 + (size_t)v5;
+        uint8_t v12 = *v11;
+        uint8_t *v13 = v2.at + (size_t)v5;
+        uint8_t v14 = *v13;
+        v9 = v12 != v14;
+        if (v9) {
+            v0 = false;
+            return v0;
+        }
+        v5 = v5 + UINT64_C(1);
+    }
+    v0 = true;
     return v0;
 }
 
 /* node::slots::Slot::clashes */
-KD_STATIC bool kd_node_slots_Slot_clashes(struct kosmydore_slot v1, uint32_t v2, struct kd_slice v3)
+KD_SMALL bool kd_node_slots_Slot_clashes(struct kosmydore_slot v1, uint32_t v2, struct kd_slice v3)
 {
     bool v0;
 
@@ -2752,7 +2735,7 @@ KD_STATIC uint8_t kd_node_slots_Slot_told(struct kosmydore_slot v1, uint32_t v2)
 }
 
 /* node_bytes::counter::counter_of */
-KD_STATIC uint16_t kd_node_bytes_counter_counter_of(struct kd_slice v1)
+KD_SMALL uint16_t kd_node_bytes_counter_counter_of(struct kd_slice v1)
 {
     uint16_t v0;
 
@@ -2761,31 +2744,25 @@ KD_STATIC uint16_t kd_node_bytes_counter_counter_of(struct kd_slice v1)
 }
 
 /* node::slots::pad */
-KD_STATIC struct kd_u8_8 kd_node_slots_pad(struct kd_slice v1)
+KD_SMALL struct kd_u8_8 kd_node_slots_pad(struct kd_slice v1)
 {
     struct kd_u8_8 v0;
-    struct kd_u8_8 v3;
+    struct kd_u8_8 v2;
 
-    uint64_t v4 = (uint64_t)v1.length;
-    uint64_t v2 = kd_wire_frame_at_most_payload(v4);
     for (size_t t1 = 0; t1 < 8; t1++) {
-        v3.at[t1] = 0u;
+        v2.at[t1] = 0u;
     }
-    uint8_t *v6 = (uint8_t *)&v3;
-    struct kd_slice v7;
-    v7.at = v6;
-    v7.length = (size_t)v2;
-    uint8_t *v8 = v1.at;
-    struct kd_slice v9;
-    v9.at = v8;
-    v9.length = (size_t)v2;
-    kd_slice_T_copy_from_slice_u8(v7, v9);
-    v0 = v3;
+    uint8_t *v4 = (uint8_t *)&v2;
+    struct kd_slice v5;
+    v5.at = v4;
+    v5.length = (size_t)UINT64_C(8);
+    kd_wire_copying_copy(v5, v1);
+    v0 = v2;
     return v0;
 }
 
 /* node::slots::Message::holding */
-KD_STATIC struct kosmydore_message kd_node_slots_Message_holding(uint16_t v1, struct kd_slice v2)
+KD_SMALL struct kosmydore_message kd_node_slots_Message_holding(uint16_t v1, struct kd_slice v2)
 {
     struct kosmydore_message v0;
 
@@ -2802,7 +2779,7 @@ KD_STATIC struct kosmydore_message kd_node_slots_Message_holding(uint16_t v1, st
 }
 
 /* node::slots::Slot::hear_data */
-KD_STATIC struct kosmydore_slot kd_node_slots_Slot_hear_data(struct kosmydore_slot v1, uint16_t v2,
+KD_SMALL struct kosmydore_slot kd_node_slots_Slot_hear_data(struct kosmydore_slot v1, uint16_t v2,
     struct kd_slice v3)
 {
     struct kosmydore_slot v0;
@@ -2819,7 +2796,7 @@ KD_STATIC struct kosmydore_slot kd_node_slots_Slot_hear_data(struct kosmydore_sl
 }
 
 /* node::slots::Slot::hear_confirmation */
-KD_STATIC struct kosmydore_slot kd_node_slots_Slot_hear_confirmation(struct kosmydore_slot v1)
+KD_SMALL struct kosmydore_slot kd_node_slots_Slot_hear_confirmation(struct kosmydore_slot v1)
 {
     struct kosmydore_slot v0;
 
@@ -2834,7 +2811,7 @@ KD_STATIC struct kosmydore_slot kd_node_slots_Slot_hear_confirmation(struct kosm
 }
 
 /* node::slots::Slot::hear_abort */
-KD_STATIC struct kosmydore_slot kd_node_slots_Slot_hear_abort(struct kosmydore_slot v1)
+KD_SMALL struct kosmydore_slot kd_node_slots_Slot_hear_abort(struct kosmydore_slot v1)
 {
     struct kosmydore_slot v0;
 
@@ -2885,8 +2862,112 @@ KD_STATIC struct kosmydore_slot kd_node_slots_Slot_hear(struct kosmydore_slot v1
     return v0;
 }
 
+/* node_bytes::numbers::put_two */
+KD_SMALL void kd_node_bytes_numbers_put_two(struct kd_slice v1, uint64_t v2, uint16_t v3)
+{
+    struct kd_u8_2 v7;
+
+    struct kd_u8_2 v6 = kd_core_int_u16_to_le_bytes(v3);
+    v7 = v6;
+    uint8_t *v8 = (uint8_t *)&v7;
+    uint8_t *v9 = v8 + (size_t)UINT64_C(0);
+    uint8_t *v10 = (uint8_t *)&v7;
+    uint8_t *v11 = v10 + (size_t)UINT64_C(1);
+    uint8_t v4 = *v9;
+    uint8_t v5 = *v11;
+    uint8_t *v12 = v1.at + (size_t)v2;
+    *v12 = v4;
+    uint64_t v13 = UINT64_C(1) + v2;
+    uint8_t *v14 = v1.at + (size_t)v13;
+    *v14 = v5;
+    return;
+}
+
+/* node_bytes::slots::put_message */
+KD_STATIC void kd_node_bytes_slots_put_message(struct kd_slice v1, uint64_t v2, struct kosmydore_message v3)
+{
+    uint64_t v4 = UINT64_C(32) * v2;
+    uint8_t v6 = kd_node_bytes_numbers_flag(v3.held);
+    uint64_t v7 = UINT64_C(5) + v4;
+    uint8_t *v8 = v1.at + (size_t)v7;
+    *v8 = v6;
+    uint8_t *v10 = v1.at;
+    struct kd_slice v11;
+    v11.at = v10;
+    v11.length = (size_t)(uint64_t)v1.length;
+    v7 = UINT64_C(6) + v4;
+    kd_node_bytes_numbers_put_two(v11, v7, v3.stamp);
+    v6 = kd_node_bytes_numbers_flag(v3.confirmed);
+    v7 = UINT64_C(11) + v4;
+    uint8_t *v12 = v1.at + (size_t)v7;
+    *v12 = v6;
+    uint8_t v13 = v3.length;
+    v7 = UINT64_C(12) + v4;
+    uint8_t *v14 = v1.at + (size_t)v7;
+    *v14 = v13;
+    struct kd_u8_8 v5;
+    memcpy(v5.at, v3.bytes, sizeof(struct kd_u8_8));
+    uint8_t *v15 = v1.at;
+    struct kd_slice v16;
+    v16.at = v15;
+    v16.length = (size_t)(uint64_t)v1.length;
+    v7 = UINT64_C(24) + v4;
+    kd_node_bytes_numbers_put_eight(v16, v7, v5);
+    return;
+}
+
+/* node_bytes::slots::put_same */
+KD_SMALL void kd_node_bytes_slots_put_same(struct kd_slice v1, uint64_t v2)
+{
+    uint64_t v3 = UINT64_C(32) * v2;
+    uint8_t *v6 = v1.at;
+    struct kd_slice v7;
+    v7.at = v6;
+    v7.length = (size_t)(uint64_t)v1.length;
+    uint64_t v8 = UINT64_C(4) + v3;
+    bool v5 = kd_node_bytes_numbers_flag_at(v7, v8);
+    uint8_t v4 = kd_node_bytes_numbers_flag(v5);
+    uint64_t v9 = UINT64_C(4) + v3;
+    uint8_t *v10 = v1.at + (size_t)v9;
+    *v10 = v4;
+    v8 = UINT64_C(15) + v3;
+    uint8_t *v11 = v1.at + (size_t)v8;
+    *v11 = 0u;
+    return;
+}
+
+/* node_bytes::slots::put_parts */
+KD_STATIC void kd_node_bytes_slots_put_parts(struct kd_slice v1, uint64_t v2, struct kosmydore_message v3,
+    struct kosmydore_pending v4)
+{
+    uint8_t *v7 = v1.at;
+    struct kd_slice v8;
+    v8.at = v7;
+    v8.length = (size_t)(uint64_t)v1.length;
+    kd_node_bytes_slots_put_message(v8, v2, v3);
+    uint64_t v5 = UINT64_C(32) * v2;
+    uint8_t v9 = kd_node_bytes_numbers_flag(v4.payload);
+    uint64_t v10 = UINT64_C(8) + v5;
+    uint8_t *v11 = v1.at + (size_t)v10;
+    *v11 = v9;
+    v9 = kd_node_bytes_numbers_flag(v4.confirmation);
+    v10 = UINT64_C(9) + v5;
+    uint8_t *v12 = v1.at + (size_t)v10;
+    *v12 = v9;
+    v9 = kd_node_bytes_numbers_flag(v4.abort);
+    v10 = UINT64_C(10) + v5;
+    uint8_t *v13 = v1.at + (size_t)v10;
+    *v13 = v9;
+    uint8_t *v14 = v1.at;
+    struct kd_slice v15;
+    v15.at = v14;
+    v15.length = (size_t)(uint64_t)v1.length;
+    kd_node_bytes_slots_put_same(v15, v2);
+    return;
+}
+
 /* wire::delivered::first_eight */
-KD_STATIC struct kd_u8_8 kd_wire_delivered_first_eight(struct kd_slice v1)
+KD_SMALL struct kd_u8_8 kd_wire_delivered_first_eight(struct kd_slice v1)
 {
     struct kd_u8_8 v0;
     struct kd_u8_8 v2;
@@ -2902,7 +2983,7 @@ KD_STATIC struct kd_u8_8 kd_wire_delivered_first_eight(struct kd_slice v1)
     struct kd_slice v7;
     v7.at = v6;
     v7.length = (size_t)UINT64_C(8);
-    kd_slice_T_copy_from_slice_u8(v5, v7);
+    kd_wire_copying_copy(v5, v7);
     v0 = v2;
     return v0;
 }
@@ -2910,45 +2991,45 @@ KD_STATIC struct kd_u8_8 kd_wire_delivered_first_eight(struct kd_slice v1)
 /* wire::delivered::put_record */
 KD_STATIC void kd_wire_delivered_put_record(struct kd_slice v1, uint32_t v2, struct kd_slice v3)
 {
-    struct kd_u8_4 v11;
-    struct kd_u8_8 v24;
+    struct kd_u8_8 v10;
+    struct kd_u8_4 v12;
     struct kd_u8_8 v36;
 
     uint64_t v4 = (uint64_t)v3.length;
-    struct kd_u8_4 v10 = kd_core_int_u32_to_le_bytes(v2);
-    v11 = v10;
-    uint8_t *v12 = (uint8_t *)&v11;
-    uint8_t *v13 = v12 + (size_t)UINT64_C(0);
-    uint8_t *v14 = (uint8_t *)&v11;
-    uint8_t *v15 = v14 + (size_t)UINT64_C(1);
-    uint8_t *v16 = (uint8_t *)&v11;
-    uint8_t *v17 = v16 + (size_t)UINT64_C(2);
-    uint8_t *v18 = (uint8_t *)&v11;
-    uint8_t *v19 = v18 + (size_t)UINT64_C(3);
-    uint8_t v5 = *v13;
-    uint8_t v6 = *v15;
-    uint8_t v7 = *v17;
-    uint8_t v8 = *v19;
-    uint64_t v20 = UINT64_C(6) + v4;
-    uint8_t v9 = (uint8_t)v20;
-    uint8_t *v22 = v1.at;
-    struct kd_slice v23;
-    v23.at = v22;
-    v23.length = (size_t)UINT64_C(8);
-    uint8_t v25 = (uint8_t)UINT64_C(1);
-    v24.at[0] = v9;
-    v24.at[1] = 0u;
-    v24.at[2] = v25;
-    v24.at[3] = 0u;
-    v24.at[4] = v5;
-    v24.at[5] = v6;
-    v24.at[6] = v7;
-    v24.at[7] = v8;
-    uint8_t *v26 = (uint8_t *)&v24;
+    struct kd_u8_4 v11 = kd_core_int_u32_to_le_bytes(v2);
+    v12 = v11;
+    uint8_t *v13 = (uint8_t *)&v12;
+    uint8_t *v14 = v13 + (size_t)UINT64_C(0);
+    uint8_t *v15 = (uint8_t *)&v12;
+    uint8_t *v16 = v15 + (size_t)UINT64_C(1);
+    uint8_t *v17 = (uint8_t *)&v12;
+    uint8_t *v18 = v17 + (size_t)UINT64_C(2);
+    uint8_t *v19 = (uint8_t *)&v12;
+    uint8_t *v20 = v19 + (size_t)UINT64_C(3);
+    uint8_t v5 = *v14;
+    uint8_t v6 = *v16;
+    uint8_t v7 = *v18;
+    uint8_t v8 = *v20;
+    uint64_t v21 = UINT64_C(6) + v4;
+    uint8_t v9 = (uint8_t)v21;
+    uint8_t v22 = (uint8_t)UINT64_C(1);
+    v10.at[0] = v9;
+    v10.at[1] = 0u;
+    v10.at[2] = v22;
+    v10.at[3] = 0u;
+    v10.at[4] = v5;
+    v10.at[5] = v6;
+    v10.at[6] = v7;
+    v10.at[7] = v8;
+    uint8_t *v24 = v1.at;
+    struct kd_slice v25;
+    v25.at = v24;
+    v25.length = (size_t)UINT64_C(8);
+    uint8_t *v26 = (uint8_t *)&v10;
     struct kd_slice v27;
     v27.at = v26;
     v27.length = (size_t)UINT64_C(8);
-    kd_slice_T_copy_from_slice_u8(v23, v27);
+    kd_wire_copying_copy(v25, v27);
     bool v28 = v4 == UINT64_C(8);
     if (v28) {
         uint64_t v30 = UINT64_C(8) + UINT64_C(8);
@@ -2964,7 +3045,7 @@ KD_STATIC void kd_wire_delivered_put_record(struct kd_slice v1, uint32_t v2, str
         struct kd_slice v38;
         v38.at = v37;
         v38.length = (size_t)UINT64_C(8);
-        kd_slice_T_copy_from_slice_u8(v34, v38);
+        kd_wire_copying_copy(v34, v38);
     } else {
         uint64_t v40 = UINT64_C(8) + v4;
         uint8_t *v41 = v1.at + (size_t)UINT64_C(8);
@@ -2973,7 +3054,7 @@ KD_STATIC void kd_wire_delivered_put_record(struct kd_slice v1, uint32_t v2, str
         struct kd_slice v44;
         v44.at = v43;
         v44.length = (size_t)v42;
-        kd_slice_T_copy_from_slice_u8(v44, v3);
+        kd_wire_copying_copy(v44, v3);
     }
     return;
 }
@@ -3006,7 +3087,7 @@ KD_STATIC uint64_t kd_wire_delivered_write_record(struct kd_slice v1, uint32_t v
 }
 
 /* node::hear::deliver_plain */
-KD_STATIC uint64_t kd_node_hear_deliver_plain(struct kd_slice v1, uint32_t v2, uint32_t v3, struct kd_slice v4)
+KD_SMALL uint64_t kd_node_hear_deliver_plain(struct kd_slice v1, uint32_t v2, uint32_t v3, struct kd_slice v4)
 {
     uint64_t v0;
     uint64_t v5;
@@ -3136,22 +3217,24 @@ KD_STATIC struct kd_Result_Heard_Reply kd_node_bytes_hear_hear(struct kd_slice v
     struct kd_slice v46;
     v46.at = v45;
     v46.length = (size_t)(uint64_t)v1.length;
-    kd_node_bytes_slots_put_slot(v46, v12, v19);
-    uint8_t *v47 = v5.at;
-    struct kd_slice v48;
-    v48.at = v47;
-    v48.length = (size_t)(uint64_t)v5.length;
-    uint64_t v20 = kd_node_hear_deliver_plain(v48, v8, v9, v4);
-    struct kd_node_Heard v49;
-    v49.f0 = v20;
-    v49.f1 = v18;
+    struct kosmydore_message v47 = v19.message;
+    struct kosmydore_pending v48 = v19.pending;
+    kd_node_bytes_slots_put_parts(v46, v12, v47, v48);
+    uint8_t *v49 = v5.at;
+    struct kd_slice v50;
+    v50.at = v49;
+    v50.length = (size_t)(uint64_t)v5.length;
+    uint64_t v20 = kd_node_hear_deliver_plain(v50, v8, v9, v4);
+    struct kd_node_Heard v51;
+    v51.f0 = v20;
+    v51.f1 = v18;
     v0.tag = 0u;
-    v0.of0 = v49;
+    v0.of0 = v51;
     return v0;
 }
 
 /* module::tally::reply_of<node::Heard> */
-KD_STATIC uint8_t kd_tally_reply_of_Heard(uint8_t *v1)
+KD_SMALL uint8_t kd_tally_reply_of_Heard(uint8_t *v1)
 {
     uint8_t v0;
     uint8_t v3;
@@ -3173,7 +3256,7 @@ KD_STATIC uint8_t kd_tally_reply_of_Heard(uint8_t *v1)
 }
 
 /* firmware::answers::number_of<node::Heard> */
-KD_STATIC uint32_t kd_answers_number_of_Heard(uint8_t *v1)
+KD_SMALL uint32_t kd_answers_number_of_Heard(uint8_t *v1)
 {
     uint32_t v0;
 
@@ -3183,7 +3266,7 @@ KD_STATIC uint32_t kd_answers_number_of_Heard(uint8_t *v1)
 }
 
 /* firmware::answers::counted<node::Heard> */
-KD_STATIC uint32_t kd_answers_counted_Heard(struct kd_slice v1, uint8_t *v2)
+KD_SMALL uint32_t kd_answers_counted_Heard(struct kd_slice v1, uint8_t *v2)
 {
     uint32_t v0;
 
@@ -3235,7 +3318,7 @@ KD_STATIC struct kd_node_Heard kd_Result_unwrap_or_Heard_Reply(struct kd_Result_
 }
 
 /* node::told::Told::number */
-KD_STATIC uint32_t kd_node_told_Told_number(uint8_t v1)
+KD_SMALL uint32_t kd_node_told_Told_number(uint8_t v1)
 {
     uint32_t v0;
 
@@ -3288,7 +3371,7 @@ struct kosmydore_module_heard kosmydore_module_hear(uint8_t *node, size_t node_l
 }
 
 /* node::tick::next */
-KD_STATIC uint16_t kd_node_tick_next(uint16_t v1)
+KD_SMALL uint16_t kd_node_tick_next(uint16_t v1)
 {
     uint16_t v0;
 
@@ -3296,30 +3379,8 @@ KD_STATIC uint16_t kd_node_tick_next(uint16_t v1)
     return v0;
 }
 
-/* node_bytes::numbers::put_two */
-KD_STATIC void kd_node_bytes_numbers_put_two(struct kd_slice v1, uint64_t v2, uint16_t v3)
-{
-    struct kd_u8_2 v11;
-
-    uint64_t v5 = UINT64_C(2) + v2;
-    uint8_t *v6 = v1.at + (size_t)v2;
-    uint64_t v7 = v5 - v2;
-    uint8_t *v8 = v6;
-    struct kd_slice v9;
-    v9.at = v8;
-    v9.length = (size_t)v7;
-    struct kd_u8_2 v10 = kd_core_int_u16_to_le_bytes(v3);
-    v11 = v10;
-    uint8_t *v12 = (uint8_t *)&v11;
-    struct kd_slice v13;
-    v13.at = v12;
-    v13.length = (size_t)UINT64_C(2);
-    kd_slice_T_copy_from_slice_u8(v9, v13);
-    return;
-}
-
 /* node_bytes::counter::put_counter */
-KD_STATIC void kd_node_bytes_counter_put_counter(struct kd_slice v1, uint16_t v2)
+KD_SMALL void kd_node_bytes_counter_put_counter(struct kd_slice v1, uint16_t v2)
 {
     uint8_t *v4 = v1.at;
     struct kd_slice v5;
@@ -3330,7 +3391,7 @@ KD_STATIC void kd_node_bytes_counter_put_counter(struct kd_slice v1, uint16_t v2
 }
 
 /* node_bytes::slots::held_at */
-KD_STATIC bool kd_node_bytes_slots_held_at(struct kd_slice v1, uint64_t v2)
+KD_SMALL bool kd_node_bytes_slots_held_at(struct kd_slice v1, uint64_t v2)
 {
     bool v0;
 
@@ -3341,7 +3402,7 @@ KD_STATIC bool kd_node_bytes_slots_held_at(struct kd_slice v1, uint64_t v2)
 }
 
 /* node_bytes::slots::stamp_at */
-KD_STATIC uint16_t kd_node_bytes_slots_stamp_at(struct kd_slice v1, uint64_t v2)
+KD_SMALL uint16_t kd_node_bytes_slots_stamp_at(struct kd_slice v1, uint64_t v2)
 {
     uint16_t v0;
 
@@ -3352,7 +3413,7 @@ KD_STATIC uint16_t kd_node_bytes_slots_stamp_at(struct kd_slice v1, uint64_t v2)
 }
 
 /* node::tick::age */
-KD_STATIC uint16_t kd_node_tick_age(uint16_t v1, uint16_t v2)
+KD_SMALL uint16_t kd_node_tick_age(uint16_t v1, uint16_t v2)
 {
     uint16_t v0;
 
@@ -3361,7 +3422,7 @@ KD_STATIC uint16_t kd_node_tick_age(uint16_t v1, uint16_t v2)
 }
 
 /* node_bytes::slots::kind_at */
-KD_STATIC uint16_t kd_node_bytes_slots_kind_at(struct kd_slice v1, uint64_t v2)
+KD_SMALL uint16_t kd_node_bytes_slots_kind_at(struct kd_slice v1, uint64_t v2)
 {
     uint16_t v0;
 
@@ -3372,7 +3433,7 @@ KD_STATIC uint16_t kd_node_bytes_slots_kind_at(struct kd_slice v1, uint64_t v2)
 }
 
 /* node_bytes::slots::confirmed_at */
-KD_STATIC bool kd_node_bytes_slots_confirmed_at(struct kd_slice v1, uint64_t v2)
+KD_SMALL bool kd_node_bytes_slots_confirmed_at(struct kd_slice v1, uint64_t v2)
 {
     bool v0;
 
@@ -3383,7 +3444,7 @@ KD_STATIC bool kd_node_bytes_slots_confirmed_at(struct kd_slice v1, uint64_t v2)
 }
 
 /* node_bytes::slots::deliver_delay_at */
-KD_STATIC uint16_t kd_node_bytes_slots_deliver_delay_at(struct kd_slice v1, uint64_t v2)
+KD_SMALL uint16_t kd_node_bytes_slots_deliver_delay_at(struct kd_slice v1, uint64_t v2)
 {
     uint16_t v0;
 
@@ -3394,7 +3455,7 @@ KD_STATIC uint16_t kd_node_bytes_slots_deliver_delay_at(struct kd_slice v1, uint
 }
 
 /* node::slots::Slot::due */
-KD_STATIC bool kd_node_slots_Slot_due(struct kosmydore_slot v1, uint16_t v2)
+KD_SMALL bool kd_node_slots_Slot_due(struct kosmydore_slot v1, uint16_t v2)
 {
     bool v0;
 
@@ -3415,7 +3476,7 @@ KD_STATIC bool kd_node_slots_Slot_due(struct kosmydore_slot v1, uint16_t v2)
 }
 
 /* node_bytes::tick::due_or_stays */
-KD_STATIC uint8_t kd_node_bytes_tick_due_or_stays(bool v1)
+KD_SMALL uint8_t kd_node_bytes_tick_due_or_stays(bool v1)
 {
     uint8_t v0;
     uint8_t v3;
@@ -3431,7 +3492,7 @@ KD_STATIC uint8_t kd_node_bytes_tick_due_or_stays(bool v1)
 }
 
 /* node_bytes::slots::confirm_delay_at */
-KD_STATIC uint16_t kd_node_bytes_slots_confirm_delay_at(struct kd_slice v1, uint64_t v2)
+KD_SMALL uint16_t kd_node_bytes_slots_confirm_delay_at(struct kd_slice v1, uint64_t v2)
 {
     uint16_t v0;
 
@@ -3442,7 +3503,7 @@ KD_STATIC uint16_t kd_node_bytes_slots_confirm_delay_at(struct kd_slice v1, uint
 }
 
 /* node::slots::Slot::late */
-KD_STATIC bool kd_node_slots_Slot_late(struct kosmydore_slot v1, uint16_t v2)
+KD_SMALL bool kd_node_slots_Slot_late(struct kosmydore_slot v1, uint16_t v2)
 {
     bool v0;
 
@@ -3462,7 +3523,7 @@ KD_STATIC bool kd_node_slots_Slot_late(struct kosmydore_slot v1, uint16_t v2)
 }
 
 /* node::slots::Slot::delivered */
-KD_STATIC struct kosmydore_slot kd_node_slots_Slot_delivered(struct kosmydore_slot v1)
+KD_SMALL struct kosmydore_slot kd_node_slots_Slot_delivered(struct kosmydore_slot v1)
 {
     struct kosmydore_slot v0;
 
@@ -3482,7 +3543,7 @@ KD_STATIC struct kosmydore_slot kd_node_slots_Slot_delivered(struct kosmydore_sl
 }
 
 /* node::slots::Slot::dropped */
-KD_STATIC struct kosmydore_slot kd_node_slots_Slot_dropped(struct kosmydore_slot v1)
+KD_SMALL struct kosmydore_slot kd_node_slots_Slot_dropped(struct kosmydore_slot v1)
 {
     struct kosmydore_slot v0;
 
@@ -3492,41 +3553,8 @@ KD_STATIC struct kosmydore_slot kd_node_slots_Slot_dropped(struct kosmydore_slot
     return v0;
 }
 
-/* node_bytes::slots::put_message */
-KD_STATIC void kd_node_bytes_slots_put_message(struct kd_slice v1, uint64_t v2, struct kosmydore_message v3)
-{
-    uint64_t v4 = UINT64_C(32) * v2;
-    uint8_t v6 = kd_node_bytes_numbers_flag(v3.held);
-    uint64_t v7 = UINT64_C(5) + v4;
-    uint8_t *v8 = v1.at + (size_t)v7;
-    *v8 = v6;
-    uint8_t *v10 = v1.at;
-    struct kd_slice v11;
-    v11.at = v10;
-    v11.length = (size_t)(uint64_t)v1.length;
-    v7 = UINT64_C(6) + v4;
-    kd_node_bytes_numbers_put_two(v11, v7, v3.stamp);
-    v6 = kd_node_bytes_numbers_flag(v3.confirmed);
-    v7 = UINT64_C(11) + v4;
-    uint8_t *v12 = v1.at + (size_t)v7;
-    *v12 = v6;
-    uint8_t v13 = v3.length;
-    v7 = UINT64_C(12) + v4;
-    uint8_t *v14 = v1.at + (size_t)v7;
-    *v14 = v13;
-    struct kd_u8_8 v5;
-    memcpy(v5.at, v3.bytes, sizeof(struct kd_u8_8));
-    uint8_t *v15 = v1.at;
-    struct kd_slice v16;
-    v16.at = v15;
-    v16.length = (size_t)(uint64_t)v1.length;
-    v7 = UINT64_C(24) + v4;
-    kd_node_bytes_numbers_put_eight(v16, v7, v5);
-    return;
-}
-
 /* node_bytes::slots::put_abort */
-KD_STATIC void kd_node_bytes_slots_put_abort(struct kd_slice v1, uint64_t v2, bool v3)
+KD_SMALL void kd_node_bytes_slots_put_abort(struct kd_slice v1, uint64_t v2, bool v3)
 {
     uint8_t v4 = kd_node_bytes_numbers_flag(v3);
     uint64_t v5 = UINT64_C(32) * v2;
@@ -3537,7 +3565,7 @@ KD_STATIC void kd_node_bytes_slots_put_abort(struct kd_slice v1, uint64_t v2, bo
 }
 
 /* node::slots::Slot::is_sender */
-KD_STATIC bool kd_node_slots_Slot_is_sender(struct kosmydore_slot v1)
+KD_SMALL bool kd_node_slots_Slot_is_sender(struct kosmydore_slot v1)
 {
     bool v0;
 
@@ -3547,7 +3575,7 @@ KD_STATIC bool kd_node_slots_Slot_is_sender(struct kosmydore_slot v1)
 }
 
 /* node::slots::Slot::hold_over */
-KD_STATIC bool kd_node_slots_Slot_hold_over(struct kosmydore_slot v1, uint16_t v2)
+KD_SMALL bool kd_node_slots_Slot_hold_over(struct kosmydore_slot v1, uint16_t v2)
 {
     bool v0;
 
@@ -3566,7 +3594,7 @@ KD_STATIC bool kd_node_slots_Slot_hold_over(struct kosmydore_slot v1, uint16_t v
 }
 
 /* node::slots::Slot::hold_ended */
-KD_STATIC struct kosmydore_slot kd_node_slots_Slot_hold_ended(struct kosmydore_slot v1)
+KD_SMALL struct kosmydore_slot kd_node_slots_Slot_hold_ended(struct kosmydore_slot v1)
 {
     struct kosmydore_slot v0;
 
@@ -3705,7 +3733,7 @@ KD_STATIC uint8_t kd_node_bytes_tick_lapse_at(struct kd_slice v1, uint64_t v2, u
 }
 
 /* node::slots::Message::payload_length */
-KD_STATIC uint64_t kd_node_slots_Message_payload_length(struct kosmydore_message v1)
+KD_SMALL uint64_t kd_node_slots_Message_payload_length(struct kosmydore_message v1)
 {
     uint64_t v0;
 
@@ -3832,7 +3860,7 @@ KD_STATIC struct kd_Result_Ticked_Reply kd_node_bytes_tick_tick(struct kd_slice 
 }
 
 /* module::tally::reply_of<node::Ticked> */
-KD_STATIC uint8_t kd_tally_reply_of_Ticked(uint8_t *v1)
+KD_SMALL uint8_t kd_tally_reply_of_Ticked(uint8_t *v1)
 {
     uint8_t v0;
     uint8_t v3;
@@ -3854,7 +3882,7 @@ KD_STATIC uint8_t kd_tally_reply_of_Ticked(uint8_t *v1)
 }
 
 /* firmware::answers::number_of<node::Ticked> */
-KD_STATIC uint32_t kd_answers_number_of_Ticked(uint8_t *v1)
+KD_SMALL uint32_t kd_answers_number_of_Ticked(uint8_t *v1)
 {
     uint32_t v0;
 
@@ -3864,7 +3892,7 @@ KD_STATIC uint32_t kd_answers_number_of_Ticked(uint8_t *v1)
 }
 
 /* firmware::answers::counted<node::Ticked> */
-KD_STATIC uint32_t kd_answers_counted_Ticked(struct kd_slice v1, uint8_t *v2)
+KD_SMALL uint32_t kd_answers_counted_Ticked(struct kd_slice v1, uint8_t *v2)
 {
     uint32_t v0;
 
@@ -3955,7 +3983,7 @@ struct kosmydore_module_ticked kosmydore_module_tick(uint8_t *node, size_t node_
 }
 
 /* node::slots::Pending::any */
-KD_STATIC bool kd_node_slots_Pending_any(struct kosmydore_pending v1)
+KD_SMALL bool kd_node_slots_Pending_any(struct kosmydore_pending v1)
 {
     bool v0;
 
@@ -3965,7 +3993,7 @@ KD_STATIC bool kd_node_slots_Pending_any(struct kosmydore_pending v1)
 }
 
 /* node::slots::Slot::is_busy */
-KD_STATIC bool kd_node_slots_Slot_is_busy(struct kosmydore_slot v1)
+KD_SMALL bool kd_node_slots_Slot_is_busy(struct kosmydore_slot v1)
 {
     bool v0;
 
@@ -3976,7 +4004,7 @@ KD_STATIC bool kd_node_slots_Slot_is_busy(struct kosmydore_slot v1)
 }
 
 /* node::slots::Slot::check_request */
-KD_STATIC struct kd_Result_unit_Reply kd_node_slots_Slot_check_request(struct kosmydore_slot v1)
+KD_SMALL struct kd_Result_unit_Reply kd_node_slots_Slot_check_request(struct kosmydore_slot v1)
 {
     struct kd_Result_unit_Reply v0;
 
@@ -4000,7 +4028,7 @@ KD_STATIC struct kd_Result_unit_Reply kd_node_slots_Slot_check_request(struct ko
 }
 
 /* node::slots::Message::keeping */
-KD_STATIC struct kosmydore_message kd_node_slots_Message_keeping(struct kd_slice v1)
+KD_SMALL struct kosmydore_message kd_node_slots_Message_keeping(struct kd_slice v1)
 {
     struct kosmydore_message v0;
 
@@ -4017,7 +4045,7 @@ KD_STATIC struct kosmydore_message kd_node_slots_Message_keeping(struct kd_slice
 }
 
 /* node::request::message_for */
-KD_STATIC struct kosmydore_message kd_node_request_message_for(bool v1, uint16_t v2, struct kd_slice v3)
+KD_SMALL struct kosmydore_message kd_node_request_message_for(bool v1, uint16_t v2, struct kd_slice v3)
 {
     struct kosmydore_message v0;
     struct kosmydore_message v5;
@@ -4033,7 +4061,7 @@ KD_STATIC struct kosmydore_message kd_node_request_message_for(bool v1, uint16_t
 }
 
 /* node::slots::Pending::to_send */
-KD_STATIC struct kosmydore_pending kd_node_slots_Pending_to_send(bool v1)
+KD_SMALL struct kosmydore_pending kd_node_slots_Pending_to_send(bool v1)
 {
     struct kosmydore_pending v0;
 
@@ -4044,7 +4072,7 @@ KD_STATIC struct kosmydore_pending kd_node_slots_Pending_to_send(bool v1)
 }
 
 /* node::slots::Slot::requested */
-KD_STATIC struct kosmydore_slot kd_node_slots_Slot_requested(struct kosmydore_slot v1, uint16_t v2,
+KD_SMALL struct kosmydore_slot kd_node_slots_Slot_requested(struct kosmydore_slot v1, uint16_t v2,
     struct kd_slice v3)
 {
     struct kosmydore_slot v0;
@@ -4133,7 +4161,9 @@ KD_STATIC struct kd_Result_unit_Reply kd_node_bytes_request_request(struct kd_sl
     struct kd_slice v31;
     v31.at = v30;
     v31.length = (size_t)(uint64_t)v1.length;
-    kd_node_bytes_slots_put_slot(v31, v4, v10);
+    struct kosmydore_message v32 = v10.message;
+    struct kosmydore_pending v33 = v10.pending;
+    kd_node_bytes_slots_put_parts(v31, v4, v32, v33);
     v0.tag = 0u;
     return v0;
 }
@@ -4165,7 +4195,7 @@ uint32_t kosmydore_module_request(uint8_t *node, size_t node_length, uint32_t st
 }
 
 /* node_bytes::slots::pending_at */
-KD_STATIC bool kd_node_bytes_slots_pending_at(struct kd_slice v1, uint64_t v2)
+KD_SMALL bool kd_node_bytes_slots_pending_at(struct kd_slice v1, uint64_t v2)
 {
     bool v0;
 
@@ -4176,7 +4206,7 @@ KD_STATIC bool kd_node_bytes_slots_pending_at(struct kd_slice v1, uint64_t v2)
 }
 
 /* node::slots::Slot::has_frame */
-KD_STATIC bool kd_node_slots_Slot_has_frame(struct kosmydore_slot v1)
+KD_SMALL bool kd_node_slots_Slot_has_frame(struct kosmydore_slot v1)
 {
     bool v0;
 
@@ -4191,7 +4221,7 @@ KD_STATIC bool kd_node_slots_Slot_has_frame(struct kosmydore_slot v1)
 }
 
 /* node_bytes::slots::frame_at */
-KD_STATIC bool kd_node_bytes_slots_frame_at(struct kd_slice v1, uint64_t v2)
+KD_SMALL bool kd_node_bytes_slots_frame_at(struct kd_slice v1, uint64_t v2)
 {
     bool v0;
 
@@ -4207,7 +4237,7 @@ KD_STATIC bool kd_node_bytes_slots_frame_at(struct kd_slice v1, uint64_t v2)
 }
 
 /* node_bytes::finding::fn::find_frame::find */
-KD_STATIC bool kd_node_bytes_finding_fn_find_frame_find(uint8_t *v1, uint8_t *v2)
+KD_SMALL bool kd_node_bytes_finding_fn_find_frame_find(uint8_t *v1, uint8_t *v2)
 {
     bool v0;
 
@@ -4218,7 +4248,7 @@ KD_STATIC bool kd_node_bytes_finding_fn_find_frame_find(uint8_t *v1, uint8_t *v2
 }
 
 /* node_bytes::finding::fn::find_frame::find+FnMut::call_mut */
-KD_STATIC bool kd_node_bytes_finding_fn_find_frame_find_FnMut_call_mut(uint8_t *v1, uint8_t *v2)
+KD_SMALL bool kd_node_bytes_finding_fn_find_frame_find_FnMut_call_mut(uint8_t *v1, uint8_t *v2)
 {
     bool v0;
 
@@ -4265,7 +4295,7 @@ KD_STATIC struct kd_Option_u64 kd_Iterator_find_Range_u64_u64_find_Self_ref_slic
 }
 
 /* node_bytes::finding::find_frame */
-KD_STATIC struct kd_Option_u64 kd_node_bytes_finding_find_frame(struct kd_slice v1)
+KD_SMALL struct kd_Option_u64 kd_node_bytes_finding_find_frame(struct kd_slice v1)
 {
     struct kd_Option_u64 v0;
     struct kd_Range_u64 v3;
@@ -4285,7 +4315,7 @@ KD_STATIC struct kd_Option_u64 kd_node_bytes_finding_find_frame(struct kd_slice 
 }
 
 /* core::result::ResultFromResidualErrResidual::from_residual<node::Given,wire::reply::Reply,wire::reply::Reply> */
-KD_STATIC struct kd_Result_Given_Reply kd_ResultFromResidualErrResidual_from_residual_Given_R_bdc4252a(uint8_t v1)
+KD_SMALL struct kd_Result_Given_Reply kd_ResultFromResidualErrResidual_from_residual_Given_R_bdc4252a(uint8_t v1)
 {
     struct kd_Result_Given_Reply v0;
 
@@ -4358,6 +4388,49 @@ KD_STATIC struct kd_ControlFlow_ErrResidual_Reply_BusId kd_ResultTry_branch_BusI
     return v0;
 }
 
+/* wire::delivered::copy_eight */
+KD_STATIC void kd_wire_delivered_copy_eight(struct kd_slice v1, uint64_t v2, struct kd_slice v3)
+{
+    uint64_t v7;
+    struct kd_u8_8 v16;
+
+    uint64_t v4 = (uint64_t)v1.length;
+    do {
+        do {
+            v7 = (uint64_t)v3.length;
+            bool v6 = v7 < UINT64_C(8);
+            if (!v6) {
+                v6 = v4 < UINT64_C(8);
+                bool v5 = v6;
+                if (!v5) {
+                    uint64_t v8 = v4 - UINT64_C(8);
+                    v5 = v8 < v2;
+                    bool v9 = v5;
+                    if (!v9) {
+                        break;
+                    }
+                }
+            }
+            return;
+        } while (0);
+    } while (0);
+    v7 = v2 + UINT64_C(8);
+    uint8_t *v11 = v1.at + (size_t)v2;
+    uint64_t v12 = v7 - v2;
+    uint8_t *v13 = v11;
+    struct kd_slice v14;
+    v14.at = v13;
+    v14.length = (size_t)v12;
+    struct kd_u8_8 v15 = kd_wire_delivered_first_eight(v3);
+    v16 = v15;
+    uint8_t *v17 = (uint8_t *)&v16;
+    struct kd_slice v18;
+    v18.at = v17;
+    v18.length = (size_t)UINT64_C(8);
+    kd_wire_copying_copy(v14, v18);
+    return;
+}
+
 /* node::next_frame::put_payload */
 KD_STATIC uint64_t kd_node_next_frame_put_payload(struct kd_slice v1, struct kosmydore_message v2)
 {
@@ -4373,15 +4446,28 @@ KD_STATIC uint64_t kd_node_next_frame_put_payload(struct kd_slice v1, struct kos
         v0 = UINT64_C(0);
         return v0;
     }
-    uint8_t *v9 = v1.at;
-    struct kd_slice v10;
-    v10.at = v9;
-    v10.length = (size_t)v4;
-    uint8_t *v11 = (uint8_t *)&v3.bytes;
-    struct kd_slice v12;
-    v12.at = v11;
-    v12.length = (size_t)v4;
-    kd_slice_T_copy_from_slice_u8(v10, v12);
+    v7 = v4 == UINT64_C(8);
+    if (v7) {
+        uint8_t *v9 = v1.at;
+        struct kd_slice v10;
+        v10.at = v9;
+        v10.length = (size_t)(uint64_t)v1.length;
+        uint8_t *v11 = (uint8_t *)&v3.bytes;
+        struct kd_slice v12;
+        v12.at = v11;
+        v12.length = (size_t)UINT64_C(8);
+        kd_wire_delivered_copy_eight(v10, UINT64_C(0), v12);
+    } else {
+        uint8_t *v14 = v1.at;
+        struct kd_slice v15;
+        v15.at = v14;
+        v15.length = (size_t)(uint64_t)v1.length;
+        uint8_t *v16 = (uint8_t *)&v3.bytes;
+        struct kd_slice v17;
+        v17.at = v16;
+        v17.length = (size_t)v4;
+        kd_wire_copying_copy(v15, v17);
+    }
     v0 = v4;
     return v0;
 }
@@ -4413,7 +4499,7 @@ KD_STATIC uint64_t kd_node_next_frame_give_payload(struct kd_slice v1, struct ko
 }
 
 /* node::slots::Slot::given_out */
-KD_STATIC struct kosmydore_slot kd_node_slots_Slot_given_out(struct kosmydore_slot v1, uint32_t v2)
+KD_SMALL struct kosmydore_slot kd_node_slots_Slot_given_out(struct kosmydore_slot v1, uint32_t v2)
 {
     struct kosmydore_slot v0;
 
@@ -4436,7 +4522,7 @@ KD_STATIC struct kosmydore_slot kd_node_slots_Slot_given_out(struct kosmydore_sl
 }
 
 /* node_bytes::numbers::put_flag */
-KD_STATIC void kd_node_bytes_numbers_put_flag(struct kd_slice v1, uint64_t v2, bool v3, bool v4)
+KD_SMALL void kd_node_bytes_numbers_put_flag(struct kd_slice v1, uint64_t v2, bool v3, bool v4)
 {
     bool v5 = v3 != v4;
     if (v5) {
@@ -4563,7 +4649,7 @@ KD_STATIC struct kd_Result_Given_Reply kd_node_bytes_next_frame_next_frame(struc
 }
 
 /* module::tally::reply_of<node::Given> */
-KD_STATIC uint8_t kd_tally_reply_of_Given(uint8_t *v1)
+KD_SMALL uint8_t kd_tally_reply_of_Given(uint8_t *v1)
 {
     uint8_t v0;
     uint8_t v3;
@@ -4585,7 +4671,7 @@ KD_STATIC uint8_t kd_tally_reply_of_Given(uint8_t *v1)
 }
 
 /* firmware::answers::number_of<node::Given> */
-KD_STATIC uint32_t kd_answers_number_of_Given(uint8_t *v1)
+KD_SMALL uint32_t kd_answers_number_of_Given(uint8_t *v1)
 {
     uint32_t v0;
 
@@ -4595,7 +4681,7 @@ KD_STATIC uint32_t kd_answers_number_of_Given(uint8_t *v1)
 }
 
 /* firmware::answers::counted<node::Given> */
-KD_STATIC uint32_t kd_answers_counted_Given(struct kd_slice v1, uint8_t *v2)
+KD_SMALL uint32_t kd_answers_counted_Given(struct kd_slice v1, uint8_t *v2)
 {
     uint32_t v0;
 
@@ -4750,7 +4836,7 @@ struct kosmydore_node kosmydore_fresh(void)
 }
 
 /* core::iter::slices::slice+T::iter<node::slots::Slot> */
-KD_STATIC struct kd_slice kd_slice_T_iter_Slot(struct kd_slice v1)
+KD_SMALL struct kd_slice kd_slice_T_iter_Slot(struct kd_slice v1)
 {
     struct kd_slice v0;
 
@@ -4759,7 +4845,7 @@ KD_STATIC struct kd_slice kd_slice_T_iter_Slot(struct kd_slice v1)
 }
 
 /* core::slice::slice+T::is_empty<node::slots::Slot> */
-KD_STATIC bool kd_slice_T_is_empty_Slot(struct kd_slice v1)
+KD_SMALL bool kd_slice_T_is_empty_Slot(struct kd_slice v1)
 {
     bool v0;
 
@@ -4796,7 +4882,7 @@ KD_STATIC struct kd_Option_ref_Slot kd_IterIterator_next_Slot(uint8_t *v1)
 }
 
 /* core::cmp::numbers::U32PartialEq::eq */
-KD_STATIC bool kd_core_cmp_numbers_U32PartialEq_eq(uint8_t *v1, uint8_t *v2)
+KD_SMALL bool kd_core_cmp_numbers_U32PartialEq_eq(uint8_t *v1, uint8_t *v2)
 {
     bool v0;
 
@@ -4807,7 +4893,7 @@ KD_STATIC bool kd_core_cmp_numbers_U32PartialEq_eq(uint8_t *v1, uint8_t *v2)
 }
 
 /* wire::ids::StreamPartialEq::eq */
-KD_STATIC bool kd_wire_ids_StreamPartialEq_eq(uint8_t *v1, uint8_t *v2)
+KD_SMALL bool kd_wire_ids_StreamPartialEq_eq(uint8_t *v1, uint8_t *v2)
 {
     bool v0;
 
@@ -4820,7 +4906,7 @@ KD_STATIC bool kd_wire_ids_StreamPartialEq_eq(uint8_t *v1, uint8_t *v2)
 }
 
 /* node::slots::Slot::is_of */
-KD_STATIC bool kd_node_slots_Slot_is_of(struct kosmydore_slot v1, uint32_t v2)
+KD_SMALL bool kd_node_slots_Slot_is_of(struct kosmydore_slot v1, uint32_t v2)
 {
     bool v0;
     struct kosmydore_slot v3;
@@ -4837,7 +4923,7 @@ KD_STATIC bool kd_node_slots_Slot_is_of(struct kosmydore_slot v1, uint32_t v2)
 }
 
 /* node::fn::Node::place_of::position */
-KD_STATIC bool kd_node_fn_Node_place_of_position(uint8_t *v1, uint8_t *v2)
+KD_SMALL bool kd_node_fn_Node_place_of_position(uint8_t *v1, uint8_t *v2)
 {
     bool v0;
 
@@ -4849,7 +4935,7 @@ KD_STATIC bool kd_node_fn_Node_place_of_position(uint8_t *v1, uint8_t *v2)
 }
 
 /* node::fn::Node::place_of::position+FnMut::call_mut */
-KD_STATIC bool kd_node_fn_Node_place_of_position_FnMut_call_mut(uint8_t *v1, uint8_t *v2)
+KD_SMALL bool kd_node_fn_Node_place_of_position_FnMut_call_mut(uint8_t *v1, uint8_t *v2)
 {
     bool v0;
 
@@ -4894,7 +4980,7 @@ KD_STATIC struct kd_Option_u64 kd_Iterator_position_Iter_Slot_ref_Slot_position_
 }
 
 /* node::Node::place_of */
-KD_STATIC struct kd_Option_u64 kd_node_Node_place_of(uint8_t *v1, uint32_t v2)
+KD_SMALL struct kd_Option_u64 kd_node_Node_place_of(uint8_t *v1, uint32_t v2)
 {
     struct kd_Option_u64 v0;
     uint32_t v3;
@@ -4915,7 +5001,7 @@ KD_STATIC struct kd_Option_u64 kd_node_Node_place_of(uint8_t *v1, uint32_t v2)
 }
 
 /* node::slots::Slot::is_free */
-KD_STATIC bool kd_node_slots_Slot_is_free(struct kosmydore_slot v1)
+KD_SMALL bool kd_node_slots_Slot_is_free(struct kosmydore_slot v1)
 {
     bool v0;
 
@@ -4924,7 +5010,7 @@ KD_STATIC bool kd_node_slots_Slot_is_free(struct kosmydore_slot v1)
 }
 
 /* node::fn::Node::free_place::position */
-KD_STATIC bool kd_node_fn_Node_free_place_position(uint8_t *v2)
+KD_SMALL bool kd_node_fn_Node_free_place_position(uint8_t *v2)
 {
     bool v0;
 
@@ -4934,7 +5020,7 @@ KD_STATIC bool kd_node_fn_Node_free_place_position(uint8_t *v2)
 }
 
 /* node::fn::Node::free_place::position+FnMut::call_mut */
-KD_STATIC bool kd_node_fn_Node_free_place_position_FnMut_call_mut(uint8_t *v2)
+KD_SMALL bool kd_node_fn_Node_free_place_position_FnMut_call_mut(uint8_t *v2)
 {
     bool v0;
 
@@ -4972,7 +5058,7 @@ KD_STATIC struct kd_Option_u64 kd_Iterator_position_Iter_Slot_ref_Slot_position_
 }
 
 /* node::Node::free_place */
-KD_STATIC struct kd_Option_u64 kd_node_Node_free_place(uint8_t *v1)
+KD_SMALL struct kd_Option_u64 kd_node_Node_free_place(uint8_t *v1)
 {
     struct kd_Option_u64 v0;
     struct kd_slice v5;
@@ -4989,7 +5075,7 @@ KD_STATIC struct kd_Option_u64 kd_node_Node_free_place(uint8_t *v1)
 }
 
 /* node::set_up::fn::place_above::position */
-KD_STATIC bool kd_node_set_up_fn_place_above_position(uint8_t *v1, uint8_t *v2)
+KD_SMALL bool kd_node_set_up_fn_place_above_position(uint8_t *v1, uint8_t *v2)
 {
     bool v0;
 
@@ -5001,7 +5087,7 @@ KD_STATIC bool kd_node_set_up_fn_place_above_position(uint8_t *v1, uint8_t *v2)
 }
 
 /* node::set_up::fn::place_above::position+FnMut::call_mut */
-KD_STATIC bool kd_node_set_up_fn_place_above_position_FnMut_call_mut(uint8_t *v1, uint8_t *v2)
+KD_SMALL bool kd_node_set_up_fn_place_above_position_FnMut_call_mut(uint8_t *v1, uint8_t *v2)
 {
     bool v0;
 
@@ -5045,7 +5131,7 @@ KD_STATIC struct kd_Option_u64 kd_Iterator_position_Iter_Slot_ref_Slot_position_
 }
 
 /* node::set_up::place_above */
-KD_STATIC struct kd_Option_u64 kd_node_set_up_place_above(struct kd_slice v1, uint32_t v2)
+KD_SMALL struct kd_Option_u64 kd_node_set_up_place_above(struct kd_slice v1, uint32_t v2)
 {
     struct kd_Option_u64 v0;
     uint32_t v3;
@@ -5061,192 +5147,79 @@ KD_STATIC struct kd_Option_u64 kd_node_set_up_place_above(struct kd_slice v1, ui
     return v0;
 }
 
-/* core::ops::bounds::RangeRangeBounds::start_bound<u64> */
-KD_STATIC struct kd_Bound_ref_u64 kd_RangeRangeBounds_start_bound_u64(uint8_t *v1)
-{
-    struct kd_Bound_ref_u64 v0;
-
-    uint8_t *v2 = (uint8_t *)&((struct kd_Range_u64 *)(void *)v1)->f0;
-    v0.tag = 0u;
-    v0.of0 = v2;
-    return v0;
-}
-
-/* core::ops::bounds::RangeRangeBounds::end_bound<u64> */
-KD_STATIC struct kd_Bound_ref_u64 kd_RangeRangeBounds_end_bound_u64(uint8_t *v1)
-{
-    struct kd_Bound_ref_u64 v0;
-
-    uint8_t *v2 = (uint8_t *)&((struct kd_Range_u64 *)(void *)v1)->f1;
-    v0.tag = 1u;
-    v0.of1 = v2;
-    return v0;
-}
-
-/* core::slice::ranges::range<core::iter::ranges::Range<u64>> */
-KD_STATIC struct kd_Range_u64 kd_ranges_range_Range_u64(struct kd_Range_u64 v1, uint64_t v2)
-{
-    struct kd_Range_u64 v0;
-    struct kd_Range_u64 v3;
-    uint64_t v12;
-    uint64_t v16;
-
-    v3 = v1;
-    uint8_t *v11 = (uint8_t *)&v3;
-    struct kd_Bound_ref_u64 v10 = kd_RangeRangeBounds_start_bound_u64(v11);
-    switch (v10.tag) {
-    case 0: {
-        uint8_t *v5 = v10.of0;
-        v12 = *(uint64_t *)(void *)v5;
-        break;
-    }
-    case 1: {
-        uint8_t *v6 = v10.of1;
-        uint64_t v13 = *(uint64_t *)(void *)v6;
-        v12 = v13 + UINT64_C(1);
-        break;
-    }
-    default: /* no other number is reached */
-    case 2: {
-        v12 = UINT64_C(0);
-        break;
-    }
-    }
-    uint64_t v4 = v12;
-    uint8_t *v15 = (uint8_t *)&v3;
-    struct kd_Bound_ref_u64 v14 = kd_RangeRangeBounds_end_bound_u64(v15);
-    switch (v14.tag) {
-    case 0: {
-        uint8_t *v8 = v14.of0;
-        uint64_t v17 = *(uint64_t *)(void *)v8;
-        v16 = v17 + UINT64_C(1);
-        break;
-    }
-    case 1: {
-        uint8_t *v9 = v14.of1;
-        v16 = *(uint64_t *)(void *)v9;
-        break;
-    }
-    default: /* no other number is reached */
-    case 2: {
-        v16 = v2;
-        break;
-    }
-    }
-    uint64_t v7 = v16;
-    v0.f0 = v4;
-    v0.f1 = v7;
-    /* v18 is not read */
-    /* v19 is not read */
-    return v0;
-}
-
-/* std_alloc::part::AnySliceRange::within<core::iter::ranges::Range<u64>> */
-KD_STATIC struct kd_tuple_u64_u64 kd_AnySliceRange_within_Range_u64(struct kd_Range_u64 v1, uint64_t v2)
-{
-    struct kd_tuple_u64_u64 v0;
-
-    struct kd_Range_u64 v4 = v1;
-    uint64_t v5 = v2;
-    struct kd_Range_u64 v3 = kd_ranges_range_Range_u64(v4, v5);
-    v0.f0 = v3.f0;
-    v0.f1 = v3.f1;
-    return v0;
-}
-
-/* std_alloc::shifts::shift<node::slots::Slot> */
-KD_STATIC void kd_shifts_shift_Slot(struct kd_slice v1, uint64_t v2, uint64_t v3, uint64_t v4)
-{
-    uint64_t v5 = v3 - v2;
-    uint64_t v6 = v2 * UINT64_C(32);
-    uint8_t *v7 = v1.at + (size_t)v6;
-    uint64_t v8 = v4 * UINT64_C(32);
-    uint8_t *v9 = v1.at + (size_t)v8;
-    memmove(v9, v7, (size_t)v5 * 32);
-    return;
-}
-
-/* std::slices::slice+T::copy_within<node::slots::Slot,core::iter::ranges::Range<u64>> */
-KD_STATIC void kd_slice_T_copy_within_Slot_Range_u64(struct kd_slice v1, struct kd_Range_u64 v2, uint64_t v3)
-{
-    struct kd_Range_u64 v7 = v2;
-    uint64_t v8 = (uint64_t)v1.length;
-    struct kd_tuple_u64_u64 v6 = kd_AnySliceRange_within_Range_u64(v7, v8);
-    uint64_t v4 = v6.f0;
-    uint64_t v5 = v6.f1;
-    uint8_t *v10 = v1.at;
-    struct kd_slice v11;
-    v11.at = v10;
-    v11.length = (size_t)(uint64_t)v1.length;
-    kd_shifts_shift_Slot(v11, v4, v5, v3);
-    return;
-}
-
 /* node::Node::set_up */
 KD_STATIC struct kd_Result_unit_Reply kd_node_Node_set_up(uint8_t *v1, uint32_t v2, struct kosmydore_slot_settings v3)
 {
     struct kd_Result_unit_Reply v0;
-    struct kd_Option_u64 v14;
-    uint64_t v21;
+    struct kd_Option_u64 v15;
+    uint64_t v22;
 
-    bool v8 = kd_wire_settings_Settings_legal(v3, v2);
-    bool v9 = !v8;
-    if (v9) {
-        uint8_t v10 = 1u;
+    bool v9 = kd_wire_settings_Settings_legal(v3, v2);
+    bool v10 = !v9;
+    if (v10) {
+        uint8_t v11 = 1u;
         v0.tag = 1u;
-        v0.of1 = v10;
+        v0.of1 = v11;
         return v0;
     }
-    uint8_t *v13 = v1;
-    struct kd_Option_u64 v12 = kd_node_Node_place_of(v13, v2);
-    v14 = v12;
-    uint8_t *v15 = (uint8_t *)&v14;
-    bool v11 = kd_Option_is_some_u64(v15);
-    if (v11) {
-        uint8_t v16 = 3u;
+    uint8_t *v14 = v1;
+    struct kd_Option_u64 v13 = kd_node_Node_place_of(v14, v2);
+    v15 = v13;
+    uint8_t *v16 = (uint8_t *)&v15;
+    bool v12 = kd_Option_is_some_u64(v16);
+    if (v12) {
+        uint8_t v17 = 3u;
         v0.tag = 1u;
-        v0.of1 = v16;
+        v0.of1 = v17;
         return v0;
     }
-    uint8_t *v19 = v1;
-    v12 = kd_node_Node_free_place(v19);
-    uint8_t v20 = 2u;
-    struct kd_Result_u64_Reply v18 = kd_Option_ok_or_u64_Reply(v12, v20);
-    struct kd_ControlFlow_ErrResidual_Reply_u64 v17 = kd_ResultTry_branch_u64_Reply(v18);
-    switch (v17.tag) {
+    uint8_t *v20 = v1;
+    v13 = kd_node_Node_free_place(v20);
+    uint8_t v21 = 2u;
+    struct kd_Result_u64_Reply v19 = kd_Option_ok_or_u64_Reply(v13, v21);
+    struct kd_ControlFlow_ErrResidual_Reply_u64 v18 = kd_ResultTry_branch_u64_Reply(v19);
+    switch (v18.tag) {
     case 0: {
-        uint64_t v5 = v17.of0;
-        v21 = v5;
+        uint64_t v5 = v18.of0;
+        v22 = v5;
         break;
     }
     default: /* no other number is reached */
     case 1: {
-        uint8_t v6 = v17.of1;
+        uint8_t v6 = v18.of1;
         v0 = kd_ResultFromResidualErrResidual_from_residual_unit_Reply_Reply(v6);
         return v0;
     }
     }
-    uint64_t v4 = v21;
-    uint8_t *v22 = (uint8_t *)&((struct kosmydore_node *)(void *)v1)->slots;
-    struct kd_slice v23;
-    v23.at = v22;
-    v23.length = (size_t)v4;
-    v12 = kd_node_set_up_place_above(v23, v2);
-    uint64_t v7 = kd_Option_unwrap_or_u64(v12, v4);
-    uint8_t *v25 = (uint8_t *)&((struct kosmydore_node *)(void *)v1)->slots;
-    struct kd_slice v26;
-    v26.at = v25;
-    v26.length = (size_t)UINT64_C(32);
-    struct kd_Range_u64 v27;
-    v27.f0 = v7;
-    v27.f1 = v4;
-    uint64_t v28 = v7 + UINT64_C(1);
-    kd_slice_T_copy_within_Slot_Range_u64(v26, v27, v28);
-    struct kosmydore_slot v29 = kd_node_slots_Slot_set_up(v2, v3);
-    v28 = v7 * UINT64_C(32);
-    uint8_t *v30 = (uint8_t *)&((struct kosmydore_node *)(void *)v1)->slots;
-    uint8_t *v31 = v30 + (size_t)v28;
-    *(struct kosmydore_slot *)(void *)v31 = v29;
+    uint64_t v4 = v22;
+    uint8_t *v23 = (uint8_t *)&((struct kosmydore_node *)(void *)v1)->slots;
+    struct kd_slice v24;
+    v24.at = v23;
+    v24.length = (size_t)v4;
+    v13 = kd_node_set_up_place_above(v24, v2);
+    uint64_t v7 = kd_Option_unwrap_or_u64(v13, v4);
+    uint64_t v8 = v4;
+    for (;;) {
+        bool v25 = v7 < v8;
+        if (!v25) {
+            break;
+        }
+        v8 = v8 - UINT64_C(1);
+        uint64_t v26 = v8 * UINT64_C(32);
+        uint8_t *v27 = (uint8_t *)&((struct kosmydore_node *)(void *)v1)->slots;
+        uint8_t *v28 = v27 + (size_t)v26;
+        struct kosmydore_slot v29 = *(struct kosmydore_slot *)(void *)v28;
+        uint64_t v30 = v8 + UINT64_C(1);
+        uint64_t v31 = v30 * UINT64_C(32);
+        uint8_t *v32 = (uint8_t *)&((struct kosmydore_node *)(void *)v1)->slots;
+        uint8_t *v33 = v32 + (size_t)v31;
+        *(struct kosmydore_slot *)(void *)v33 = v29;
+    }
+    struct kosmydore_slot v34 = kd_node_slots_Slot_set_up(v2, v3);
+    uint64_t v35 = v7 * UINT64_C(32);
+    uint8_t *v36 = (uint8_t *)&((struct kosmydore_node *)(void *)v1)->slots;
+    uint8_t *v37 = v36 + (size_t)v35;
+    *(struct kosmydore_slot *)(void *)v37 = v34;
     v0.tag = 0u;
     return v0;
 }
@@ -5442,7 +5415,7 @@ KD_STATIC bool kd_node_slots_Slot_may_stir(struct kosmydore_slot v1, uint16_t v2
 }
 
 /* node::slots::Message::all_bytes */
-KD_STATIC struct kd_u8_8 kd_node_slots_Message_all_bytes(struct kosmydore_message v1)
+KD_SMALL struct kd_u8_8 kd_node_slots_Message_all_bytes(struct kosmydore_message v1)
 {
     struct kd_u8_8 v0;
 
@@ -5662,7 +5635,7 @@ struct kosmydore_answered kosmydore_request(struct kosmydore_node node, uint32_t
 }
 
 /* node::fn::Node::place_of_frame::position */
-KD_STATIC bool kd_node_fn_Node_place_of_frame_position(uint8_t *v2)
+KD_SMALL bool kd_node_fn_Node_place_of_frame_position(uint8_t *v2)
 {
     bool v0;
 
@@ -5672,7 +5645,7 @@ KD_STATIC bool kd_node_fn_Node_place_of_frame_position(uint8_t *v2)
 }
 
 /* node::fn::Node::place_of_frame::position+FnMut::call_mut */
-KD_STATIC bool kd_node_fn_Node_place_of_frame_position_FnMut_call_mut(uint8_t *v2)
+KD_SMALL bool kd_node_fn_Node_place_of_frame_position_FnMut_call_mut(uint8_t *v2)
 {
     bool v0;
 
@@ -5710,7 +5683,7 @@ KD_STATIC struct kd_Option_u64 kd_Iterator_position_Iter_Slot_ref_Slot_position_
 }
 
 /* node::Node::place_of_frame */
-KD_STATIC struct kd_Option_u64 kd_node_Node_place_of_frame(uint8_t *v1)
+KD_SMALL struct kd_Option_u64 kd_node_Node_place_of_frame(uint8_t *v1)
 {
     struct kd_Option_u64 v0;
     struct kd_slice v5;

@@ -2,7 +2,7 @@
  * Kosmydore 6.0.0: the header of kosmydore.c
  *
  * Made by `./kosmydore portable DIR` from the proved program of the crate `firmware`. Not to be edited.
- *   program  sha256 24bbca3c0474a3501a95c4cddd2d1e8bfe1b7c474598f40da95a8fafd920462e
+ *   program  sha256 199f5788f9c819b41eefb8609b598489a2b78420c288102523a1f6d62b0ee1e3
  *   kit      rattle-kit-13f logic dac8208d650f15bf
  *
  * What this rests on. Proved is the program before its translation: every answer and every byte, for every input that

@@ -116,7 +116,7 @@ fn addresses_in_structs() {
 
 #[test]
 fn what_is_handed_on() {
-    written(&[ADDRESS, EMPTY, CALL], &["KD_STATIC void kd_b_other_u32(uint8_t *v1)", "kd_b_other_u32(v6);"]);
+    written(&[ADDRESS, EMPTY, CALL], &["KD_SMALL void kd_b_other_u32(uint8_t *v1)", "kd_b_other_u32(v6);"]);
     refused(&[SHORT, EMPTY, CALL], "an address of Int(16), used as one of Int(32)");
 }
 
