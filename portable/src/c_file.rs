@@ -43,16 +43,17 @@ impl<'a> Order<'a> {
 /// Most functions are a few lines. For speed each stands in its caller, which saves the copies between them; for size only the
 /// small ones do, whose call is longer than they are; where a compiler does not know the word, that is left to it.
 const STATIC: &str =
-    "/* Where speed is asked for, each function stands in its caller: that saves the copies between them. Where size is, a small one does. */
-#if defined __GNUC__ && defined __OPTIMIZE__
+    "/* Where speed is asked for, each function stands in its caller: that saves the copies between them. Where size is, a small one does,
+   of which gcc has to be told and clang has not. */
+#if defined __GNUC__ && defined __OPTIMIZE__ && !defined __OPTIMIZE_SIZE__
+#define KD_STATIC static inline __attribute__((always_inline))
+#else
+#define KD_STATIC static
+#endif
+#if defined __GNUC__ && defined __OPTIMIZE__ && !defined __clang__
 #define KD_SMALL static inline __attribute__((always_inline))
 #else
-#define KD_SMALL static
-#endif
-#if defined __OPTIMIZE_SIZE__
-#define KD_STATIC static
-#else
-#define KD_STATIC KD_SMALL
+#define KD_SMALL KD_STATIC
 #endif
 ";
 
