@@ -4,7 +4,7 @@ ghost use Rattle.std.specs.Prelude.{◌≡◌, IfNone};
 use crate::lent;
 use module::Module;
 use module::tally::reply_of;
-use node::told::Told;
+use module::values::{given_in, heard_in, ticked_in};
 use text::output::Printer;
 use text::part;
 use text::words::Words;
@@ -50,15 +50,12 @@ pub(crate) fn hear(module: &mut Module, words: &mut Words<'_>, out: &mut Printer
     words.end()?;
     let mut output = lent::FILLED;
     let answer = module.hear(BusId(id), dlc, &payload[..len], &mut output[..size]);
-    let (written, told) = match answer {
-        Ok(heard) => (heard.written, heard.told),
-        Err(_) => (0, Told::Nothing),
-    };
+    let heard = heard_in(answer);
     out.put_parted(number_of(&answer), b' ');
-    out.put_parted(written as u64, b' ');
+    out.put_parted(heard.written as u64, b' ');
     out.put_hex(&output[..size]);
     out.put_byte(b' ');
-    out.put_told(told.number());
+    out.put_told(heard.told.number());
     Some(())
 }
 
@@ -70,20 +67,17 @@ pub(crate) fn tick(module: &mut Module, words: &mut Words<'_>, out: &mut Printer
     words.end()?;
     let mut output = lent::FILLED;
     let answer = module.tick(&mut output[..size]);
-    let (written, dropped, delivered) = match answer {
-        Ok(ticked) => (ticked.written, ticked.dropped, ticked.delivered),
-        Err(_) => (0, 0, 0),
-    };
+    let ticked = ticked_in(answer);
     out.put_parted(number_of(&answer), b' ');
-    out.put_parted(written as u64, b' ');
-    out.put_hex(part(&output, 0, written));
-    out.put(if lent::is_clean(&output, written) {
+    out.put_parted(ticked.written as u64, b' ');
+    out.put_hex(part(&output, 0, ticked.written));
+    out.put(if lent::is_clean(&output, ticked.written) {
         b" clean "
     } else {
         b" dirty "
     });
-    out.put_parted(u64::from(dropped), b' ');
-    out.put_decimal(u64::from(delivered));
+    out.put_parted(u64::from(ticked.dropped), b' ');
+    out.put_decimal(u64::from(ticked.delivered));
     Some(())
 }
 
@@ -95,13 +89,10 @@ pub(crate) fn next(module: &mut Module, words: &mut Words<'_>, out: &mut Printer
     words.end()?;
     let mut output = lent::FILLED;
     let answer = module.next_frame(&mut output[..size]);
-    let (id, len) = match answer {
-        Ok(given) => (given.id, given.len),
-        Err(_) => (BusId(0), 0),
-    };
+    let given = given_in(answer);
     out.put_parted(number_of(&answer), b' ');
-    out.put_parted(u64::from(id.0), b' ');
-    out.put_parted(len as u64, b' ');
+    out.put_parted(u64::from(given.id.0), b' ');
+    out.put_parted(given.len as u64, b' ');
     out.put_hex(&output[..size]);
     Some(())
 }

@@ -23,6 +23,7 @@ use Rattle.heard.proofs.reading.heard_at.Reads as heard_at_law
 use Rattle.heard.proofs.reply.Reply.number.Reads as refusal_number_law
 use Rattle.heard.proofs.reply.number_of.Reads as number
 use Rattle.heard.proofs.writing.write_heard.Reads as write_heard
+use Rattle.heard.proofs.writing.written_in.Reads as written_in
 
 pub refusal_number_unique : OneAnswer refusal_number_law.Post
 refusal_number_unique l input a b s t = same
@@ -30,6 +31,9 @@ refusal_number_unique l input a b s t = same
 -- of every answer, Done too
 pub number_unique : (T : RattleType) (laws : Laws T) → OneAnswer (number.Post T laws)
 number_unique T laws l input a b s t = same
+
+pub written_in_unique : OneAnswer written_in.Post
+written_in_unique l input a b s t = same
 
 pub kind_number_unique : OneAnswer kind_number_law.Post
 kind_number_unique l input a b s t = same

@@ -21,6 +21,11 @@ reply_in (Err r) = Refused r
 abbrev pub as_written : Writing → Result ℕ code.Reply
 as_written w = answered w.reply (length w.bytes)
 
+-- how many bytes an answer says were written: none with a refusal
+abbrev pub written_in : Result ℕ code.Reply → ℕ
+written_in (Ok n) = n
+written_in (Err r) = 0
+
 -- a record that was read
 abbrev pub was_read : reader.HeardAt → HeardAt
 was_read r =

@@ -6,7 +6,7 @@ ghost use Rattle.wire.specs.Delivered.{little_endian, over};
 ghost use Rattle.heard.specs.Kinds.{count_bytes, kind_number};
 ghost use Rattle.heard.specs.Records.{at_counter, record_of, heard_of};
 ghost use Rattle.heard.specs.Writing.{writing};
-ghost use Rattle.heard.specs.Answers.{as_written};
+ghost use Rattle.heard.specs.Answers.{as_written, written_in};
 
 use crate::kind::Kind;
 use crate::record::Heard;
@@ -33,6 +33,13 @@ pub fn write_heard(
         dlc,
     };
     write(out, heard, payload)
+}
+
+// How many bytes an answer says were written: none with a refusal.
+pub fn written_in(answer: Result<usize, Reply>) -> usize
+    ensures { result ≡ written_in answer }
+{
+    answer.unwrap_or(0)
 }
 
 // Of any kind.

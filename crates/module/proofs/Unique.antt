@@ -25,6 +25,9 @@ use Rattle.module.proofs.tally.Tally.zero.Reads as zero
 use Rattle.module.proofs.Module.fresh.Reads as fresh
 use Rattle.module.specs.contracts.tally.Tally.count as count
 use Rattle.module.proofs.tally.count_in.Reads as count_in
+use Rattle.module.proofs.values.heard_in.Reads as heard_values
+use Rattle.module.proofs.values.ticked_in.Reads as ticked_values
+use Rattle.module.proofs.values.given_in.Reads as given_values
 use Rattle.module.specs.contracts.Module.set_up as set_up_call
 use Rattle.module.specs.contracts.Module.hear as hearing
 use Rattle.module.specs.contracts.Module.tick as ticking
@@ -74,6 +77,16 @@ promised_unique (request s payload) m r r' left left' t t' p q = (same p.0 q.0, 
 promised_unique (next_frame output) m r r' left left' t t' p q = (same p.0 q.0, same p.1 q.1, same p.2 q.2)
 
 -- ── these are the promises of the sources ──
+-- the values of an answer, a refusal too
+pub heard_in_unique : OneAnswer heard_values.Post
+heard_in_unique l input a b s t = same
+
+pub ticked_in_unique : OneAnswer ticked_values.Post
+ticked_in_unique l input a b s t = same
+
+pub given_in_unique : OneAnswer given_values.Post
+given_in_unique l input a b s t = same
+
 -- the contract of each function that changes the tally or the module, as it is read from its source: `a` is what it is passed, `e`
 -- what is behind its parameters at the exit
 module _ {M : Type 1} {𝓤 : Ura M} (𝓛 : Logic 𝓤) (mem : Memory → SProp 𝓤) (run : Routine → Fun 𝓤) where

@@ -1,2 +1,3 @@
 pub mod Tallies
 pub mod Histories
+pub mod Values

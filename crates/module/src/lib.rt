@@ -9,6 +9,7 @@ use node::Node;
 
 pub mod calls;
 pub mod tally;
+pub mod values;
 
 #[derive(Clone, Copy)]
 pub struct Module {

@@ -1,6 +1,6 @@
 // Writing a heard record into an output that is lent, and was `ee` before.
 use heard::reply::number_of;
-use heard::writing::write_heard;
+use heard::writing::{write_heard, written_in};
 use text::output::Printer;
 use text::words::Words;
 use wire::ids::BusId;
@@ -25,7 +25,7 @@ pub(crate) fn write(words: &mut Words<'_>, out: &mut Printer) -> Option<()> {
     let mut lent = [FILL; MOST];
     let answer = write_heard(&mut lent[..size], counter, id, dlc, &bytes[..len]);
     out.put_parted(u64::from(number_of(&answer)), b' ');
-    out.put_parted(answer.unwrap_or_default() as u64, b' ');
+    out.put_parted(written_in(answer) as u64, b' ');
     out.put_hex(&lent[..size]);
     Some(())
 }
